@@ -1,5 +1,5 @@
 -- A seat is made, a seat is taken in, and what the last state says.
-use Rattle.std.proofs.Common.{◌≡◌, ◌≢◌, ℕ, zero, suc, ◌+◌, ◌^◌, ◌<◌, ◌≤◌, Bool, true, false, cond, eqb, ltb, List, [], ◌∷◌, ◌++◌, length, get_or, set, sum, sum_by, replicate, refl, sym, ap, ◌∙◌, subst, ⊎_elim, arith}
+use Rattle.std.proofs.Common.{◌*◌, ◌≡◌, ◌≢◌, ℕ, zero, suc, ◌+◌, ◌^◌, ◌<◌, ◌≤◌, Bool, true, false, cond, eqb, ltb, List, [], ◌∷◌, ◌++◌, length, get_or, set, sum, sum_by, replicate, refl, sym, ap, ◌∙◌, subst, ⊎_elim, arith}
 use mathlib.Core.Option.{some, some-injective, some-ne-none}
 use lib.ListN.{get_elem?}
 use Rattle.std.proofs.lemmas.Bool.{cases_eq, cases_lt, ne_eqb}
@@ -11,7 +11,7 @@ use Rattle.amber_board.specs.declared.view.Role.TheVariants.{Chief, Worker, Spen
 use Rattle.amber_board.specs.declared.view.Kept.{Kept}
 use Rattle.amber_board.specs.declared.view.Terms.{Terms}
 use Rattle.amber_board.specs.declared.view.View.{View}
-use Rattle.amber_board.specs.Ledger.{allotment, units_counted, total_below, seats_of, mine_of, times_kept, kept_of, flag, PlacedView, ConservedBy, Conserved, IsExact, IsSeen, IsWord, first_view, is_worker, worker_number_of}
+use Rattle.amber_board.specs.Ledger.{count_word, allotment, tally, total_below, seats_of, mine_of, times_kept, kept_of, flag, PlacedView, ConservedBy, Conserved, IsExact, IsSeen, IsWord, first_view, is_worker, worker_number_of}
 use Rattle.amber_board.specs.Moves.{after_split, new_seat, after_join, spent_view}
 use Rattle.amber_board.proofs.Sums.{total_below-ext, total_below-zero, total_below-le, total_below-plus, total_below-flag, total_below-term, total_below-keyed, flag-below, flag-above, sum-below, sum_by-cons}
 use Rattle.amber_board.proofs.Views.{at_within, sum_at_set, sum_at, sum_zero}
@@ -146,13 +146,13 @@ alone v (suc k) u e = absurd (some-ne-none u (sym e))
 
 -- the words as a board is made
 abbrev pub first_words : ℕ → List ℕ
-first_words target = target ∷ target ∷ replicate 32 0
+first_words target = target ∷ target ∷ replicate 150 0
 
 no_allotment : (t w : ℕ) → allotment (first_words t) w ≡ 0
-no_allotment t w = let e : 2 + w ≡ suc (suc w) = omega arith in ap (λ (j : ℕ). get_or (first_words t) j 0) e ∙ zero_at 32 w
+no_allotment t w = let e : 2 + w ≡ suc (suc w) = omega arith in ap (λ (j : ℕ). get_or (first_words t) j 0) e ∙ zero_at 150 w
 
-no_count : (t w : ℕ) → units_counted (first_words t) w ≡ 0
-no_count t w = let e : 18 + w ≡ suc (suc (16 + w)) = omega arith in ap (λ (j : ℕ). get_or (first_words t) j 0) e ∙ zero_at 32 (16 + w)
+no_count : (t w : ℕ) → tally (first_words t) w ≡ 0
+no_count t w = let e : count_word w ≡ suc (suc (22 + 8 * w)) = omega arith in ap (λ (j : ℕ). get_or (first_words t) j 0) e ∙ zero_at 150 (22 + 8 * w)
 
 -- at first all units are unassigned
 pub opens : (terms : Terms) → terms.target ≤ 2 ^ 40 → terms.workers ≤ 16 → Conserved terms (first_words terms.target) (first_view terms ∷ [])
@@ -163,7 +163,7 @@ opens terms small few =
       record {
         units =
             let allotments = total_below-zero 16 (allotment (first_words t)) (λ w l. no_allotment t w) in
-            let counts = total_below-zero 16 (units_counted (first_words t)) (λ w l. no_count t w) in
+            let counts = total_below-zero 16 (tally (first_words t)) (λ w l. no_count t w) in
             omega arith;
         there = refl;
         is_chief = refl;
@@ -194,9 +194,9 @@ kept_below {chief = chief} h j k at =
 
 -- what the workers counted, by seats that are out and seats that were taken in
 counted_parts : {terms : Terms} {words : List ℕ} {views : List View} {chief : PlacedView} (h : ConservedBy terms words views chief)
-    → total_below 16 (units_counted words) ≡ total_below 16 (λ w. mine_of w views) + sum_by (λ (k : Kept). k.count) chief.view.kept
+    → total_below 16 (tally words) ≡ total_below 16 (λ w. mine_of w views) + sum_by (λ (k : Kept). k.count) chief.view.kept
 counted_parts {words = words} {views = views} {chief = chief} h =
-    let cut = total_below-ext 16 (units_counted words) (λ w. mine_of w views + kept_of w chief.view.kept) (λ w l. h.mine w l) in
+    let cut = total_below-ext 16 (tally words) (λ w. mine_of w views + kept_of w chief.view.kept) (λ w l. h.mine w l) in
     let parts = total_below-plus 16 (λ w. mine_of w views) (λ w. kept_of w chief.view.kept) in
     let keyed = total_below-keyed 16 (λ (k : Kept). k.worker) (λ (k : Kept). k.count) chief.view.kept (λ j k at. kept_below h j k at) in
     omega arith
@@ -227,11 +227,11 @@ none_out {views = views} {chief = chief} h all w l =
     (λ k v at. let part = sum_at (λ (x : View). seat_flag w x.role) views k v at in idle_flag (is_worker w v.role) v.mine (omega arith))
 
 -- what the chief saw adds up to at most what was counted
-seen_below : {terms : Terms} {words : List ℕ} {views : List View} {chief : PlacedView} (h : ConservedBy terms words views chief) → sum chief.view.seen ≤ total_below 16 (units_counted words)
+seen_below : {terms : Terms} {words : List ℕ} {views : List View} {chief : PlacedView} (h : ConservedBy terms words views chief) → sum chief.view.seen ≤ total_below 16 (tally words)
 seen_below {words = words} {chief = chief} h =
     let places = sum-below chief.view.seen in
     let long = ap (λ (n : ℕ). total_below n (λ k. get_or chief.view.seen k 0)) h.all_seen in
-    let least = total_below-le 16 (λ k. get_or chief.view.seen k 0) (units_counted words) h.seen in
+    let least = total_below-le 16 (λ k. get_or chief.view.seen k 0) (tally words) h.seen in
     omega arith
 
 pub seen_exact : (v : View) → v.role ≡ Chief → IsSeen v
@@ -280,5 +280,5 @@ mine_exact v n is few terms words views k holds at =
     let moved = sum_at_set (λ (u : View). mine_if n u.role u.mine) views k v spent_view at in
     let mine = ap (λ (r : Role). mine_if n r v.mine) is ∙ mine_own n v.mine in
     let word = h.mine n few in
-    let spot = ap (units_counted words) name in
+    let spot = ap (tally words) name in
     omega arith

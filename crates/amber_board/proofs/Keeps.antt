@@ -9,7 +9,7 @@ use Rattle.amber_board.specs.declared.view.Role.{Role}
 use Rattle.amber_board.specs.declared.view.Role.TheVariants.{Chief, Worker, Spent}
 use Rattle.amber_board.specs.declared.view.Terms.{Terms}
 use Rattle.amber_board.specs.declared.view.View.{View}
-use Rattle.amber_board.specs.Ledger.{free_units, allotment, units_counted, PlacedView, ConservedBy, Conserved, worker_number_of}
+use Rattle.amber_board.specs.Ledger.{count_word, free_units, allotment, tally, PlacedView, ConservedBy, Conserved, worker_number_of}
 use Rattle.amber_board.specs.Moves.{drawn, after_grant, put_back_of, swept, after_watch, after_claim, counted_one, given_back}
 use Rattle.amber_board.proofs.Sums.{total_below-zero, total_below-term}
 use Rattle.amber_board.proofs.Views.{at_within, sum_at, sum_only}
@@ -21,7 +21,7 @@ abbrev pub Rule : Terms → State (Unit {0}) View → Type 0
 Rule terms s = Conserved terms s.words s.views
 
 chief_stays : {terms : Terms} {words words' : List ℕ} {views : List View} {chief : PlacedView} (h : ConservedBy terms words views chief) (v' : View) → SameChief chief.view v' → Steps words words' chief.view.made chief.view v'
-    → ((w : ℕ) → w < 16 → get_or v'.seen w 0 ≤ units_counted words w) → length v'.seen ≡ 16 → Conserved terms words' (set views chief.place v')
+    → ((w : ℕ) → w < 16 → get_or v'.seen w 0 ≤ tally words w) → length v'.seen ≡ 16 → Conserved terms words' (set views chief.place v')
 chief_stays {views = views} {chief = chief} h v' same steps seen all_seen = (
   record { place = chief.place; view = v' },
   stays h chief.place chief.view v' v' h.there (same.role ∙ sym h.is_chief) (λ e. let r : Chief ≡ Spent = sym h.is_chief ∙ e in cc) (set_here views chief.place v' (at_within views chief.place chief.view h.there)) same steps seen all_seen,
@@ -36,11 +36,11 @@ worker_stays {views = views} {chief = chief} h id v v' n at is role steps = (
 
 -- a hand is a part of the target, beside what is unassigned and what one worker may claim
 within : {terms : Terms} {words : List ℕ} {views : List View} {chief : PlacedView} (h : ConservedBy terms words views chief) (id : ℕ) (v : View) (w : ℕ) → w < 16 → get_elem? views id ≡ some v
-    → v.hand + free_units words + allotment words w + units_counted words w ≤ 2 ^ 40
+    → v.hand + free_units words + allotment words w + tally words w ≤ 2 ^ 40
 within {words = words} {views = views} h id v w l at =
     let hand = sum_at (λ (u : View). u.hand) views id v at in
     let part = total_below-term 16 w (allotment words) l in
-    let count = total_below-term 16 w (units_counted words) l in
+    let count = total_below-term 16 w (tally words) l in
     let all = h.units in
     let most = h.limits.0 in
     omega arith
@@ -55,7 +55,7 @@ idle h none k v at n Spent is = h.spent k v at is
 opened : {terms : Terms} {words : List ℕ} {views : List View} {chief : PlacedView} (h : ConservedBy terms words views chief) → chief.view.made ≡ 0 → chief.view.hand + free_units words ≡ chief.view.target
 opened {words = words} {views = views} {chief = chief} h none =
     let allotments = total_below-zero 16 (allotment words) (λ w l. (h.unmade w (omega arith) l).0) in
-    let counts = total_below-zero 16 (units_counted words) (λ w l. (h.unmade w (omega arith) l).1) in
+    let counts = total_below-zero 16 (tally words) (λ w l. (h.unmade w (omega arith) l).1) in
     let hand = sum_only (λ (u : View). u.hand) views chief.place chief.view h.there (λ k v at n. idle h none k v at n v.role refl) in
     let all = h.units in
     let target = h.target.1 in
@@ -119,18 +119,18 @@ module _ (terms : Terms) (slots id : ℕ) (me : Me (Unit {0}) View) (is : me.0.r
       )
 
   pub watches : (worker : ℕ) → worker < 16
-      → Allows (Rule terms) slots id me (18 + worker) (λ n. n) (λ n after. ((w : ℕ) → 18 + worker ≡ 18 + w → after.0 ≡ after_watch me.0 w n) × (after.1 ≡ me.1) × (n ≤ 2 ^ 40))
+      → Allows (Rule terms) slots id me (count_word worker) (λ n. n) (λ n after. ((w : ℕ) → count_word worker ≡ count_word w → after.0 ≡ after_watch me.0 w n) × (after.1 ≡ me.1) × (n ≤ 2 ^ 40))
   watches worker few s holds _ at _ =
       let h = by_chief holds id me.0 at is in
-      let x : ℕ = units_counted s.words worker in
+      let x : ℕ = tally s.words worker in
       let v' : View = after_watch me.0 worker x in
       let bound : x ≤ 2 ^ 40 = let all = within h id me.0 worker few at in omega arith in
       let all_seen = h.all_seen in (
         v',
         keeps,
         tt,
-        chief_stays h v' (record { role = is; target = refl; made = refl; kept = refl }) (load_steps s.words h.size me.0.made me.0 v' refl refl (18 + worker) (omega arith) refl)
-            (λ w l. ⊎_elim (λ e. let here = get_or-set_same me.0.seen worker x 0 (omega arith) in let move = ap (λ (j : ℕ). get_or v'.seen j 0) e in let was = ap (units_counted s.words) e in omega arith)
+        chief_stays h v' (record { role = is; target = refl; made = refl; kept = refl }) (load_steps s.words h.size me.0.made me.0 v' refl refl (count_word worker) (omega arith) refl)
+            (λ w l. ⊎_elim (λ e. let here = get_or-set_same me.0.seen worker x 0 (omega arith) in let move = ap (λ (j : ℕ). get_or v'.seen j 0) e in let was = ap (tally s.words) e in omega arith)
             (λ n. let other = get_or-set_other me.0.seen worker w x 0 n in let below = h.seen w l in omega arith) (cases_eq w worker))
             (length-set me.0.seen worker x ∙ all_seen),
         ((λ w e. let same : worker ≡ w = omega arith in ap (λ (j : ℕ). after_watch me.0 j x) same), refl, bound),
@@ -151,10 +151,10 @@ module _ (terms : Terms) (slots id : ℕ) (me : Me (Unit {0}) View) (number : �
         (ap (λ (r : Role). 2 + worker_number_of r) (sym is), refl, refl, bound),
       )
 
-  pub counts : 0 < me.0.hand → Allows (Rule terms) slots id me (18 + number) (λ n. (n + 1) % 2 ^ 64) (λ n after. (18 + number ≡ 18 + worker_number_of me.0.role) × (after.0 ≡ counted_one me.0 (worker_number_of me.0.role)) × (after.1 ≡ me.1) × (me.0.mine + 1 ≤ 2 ^ 40))
+  pub counts : 0 < me.0.hand → Allows (Rule terms) slots id me (count_word number) (λ n. (n + 1) % 2 ^ 64) (λ n after. (count_word number ≡ count_word (worker_number_of me.0.role)) × (after.0 ≡ counted_one me.0 (worker_number_of me.0.role)) × (after.1 ≡ me.1) × (me.0.mine + 1 ≤ 2 ^ 40))
   counts has s holds _ at _ =
       let h = holds.1 in
-      let x : ℕ = units_counted s.words number in
+      let x : ℕ = tally s.words number in
       let v' : View = counted_one me.0 (worker_number_of me.0.role) in
       let all = within h id me.0 number few at in
       let small : x + 1 ≡ (x + 1) % 18446744073709551616 = omega arith in
@@ -166,9 +166,9 @@ module _ (terms : Terms) (slots id : ℕ) (me : Me (Unit {0}) View) (number : �
         v',
         keeps,
         tt,
-        subst (λ (y : ℕ). Conserved terms (set s.words (18 + number) y) (set s.views id v')) small
+        subst (λ (y : ℕ). Conserved terms (set s.words (count_word number) y) (set s.views id v')) small
             (worker_stays h id me.0 v' number at is refl (count_steps s.words holds.0.view.made number 1 me.0 v' h.size is refl made few (omega arith) refl)),
-        (ap (λ (r : Role). 18 + worker_number_of r) (sym is), refl, refl, bound),
+        (ap (λ (r : Role). count_word (worker_number_of r)) (sym is), refl, refl, bound),
       )
 
   pub gives_back : (k : ℕ) → me.0.hand ≡ k → Allows (Rule terms) slots id me 1 (λ n. (n + k) % 2 ^ 64) (λ n after. (◌≡◌ {A = ℕ} 1 1) × (after.0 ≡ given_back me.0 (worker_number_of me.0.role)) × (after.1 ≡ me.1))

@@ -8,7 +8,7 @@ use Rattle.amber_board.specs.declared.view.Role.{Role}
 use Rattle.amber_board.specs.declared.view.Role.TheVariants.{Chief, Worker, Spent}
 use Rattle.amber_board.specs.declared.view.Terms.{Terms}
 use Rattle.amber_board.specs.declared.view.View.{View}
-use Rattle.amber_board.specs.Ledger.{free_units, allotment, units_counted, total_below, is_worker, seats_of, mine_of, times_kept, kept_of, flag, PlacedView, ConservedBy, Conserved}
+use Rattle.amber_board.specs.Ledger.{free_units, allotment, tally, total_below, is_worker, seats_of, mine_of, times_kept, kept_of, flag, PlacedView, ConservedBy, Conserved}
 use Rattle.amber_board.proofs.Sums.{flag-above}
 use Rattle.amber_board.proofs.Views.{sum_at_set, sum_at}
 
@@ -24,10 +24,10 @@ mine_if w r mine = cond (is_worker w r) mine 0
 pub record Steps (words words' : List ℕ) (made : ℕ) (v v' : View) : Type 0 where
   pub size : length words' ≡ length words
   pub target : get_or words' 0 0 ≡ get_or words 0 0
-  pub units : free_units words' + total_below 16 (allotment words') + total_below 16 (units_counted words') + v'.hand ≡ free_units words + total_below 16 (allotment words) + total_below 16 (units_counted words) + v.hand
-  pub unmade : (w : ℕ) → made ≤ w → w < 16 → (allotment words' w ≡ allotment words w) × (units_counted words' w ≡ units_counted words w)
-  pub mine : (w : ℕ) → w < 16 → units_counted words' w + mine_if w v.role v.mine ≡ units_counted words w + mine_if w v'.role v'.mine
-  pub more : (w : ℕ) → w < 16 → units_counted words w ≤ units_counted words' w
+  pub units : free_units words' + total_below 16 (allotment words') + total_below 16 (tally words') + v'.hand ≡ free_units words + total_below 16 (allotment words) + total_below 16 (tally words) + v.hand
+  pub unmade : (w : ℕ) → made ≤ w → w < 16 → (allotment words' w ≡ allotment words w) × (tally words' w ≡ tally words w)
+  pub mine : (w : ℕ) → w < 16 → tally words' w + mine_if w v.role v.mine ≡ tally words w + mine_if w v'.role v'.mine
+  pub more : (w : ℕ) → w < 16 → tally words w ≤ tally words' w
 
 -- what the chief's view keeps
 pub record SameChief (chief chief' : View) : Type 0 where
@@ -48,7 +48,7 @@ seats_same w views id v v' at role =
 module _ {terms : Terms} {words words' : List ℕ} {views : List View} {chief : PlacedView} (h : ConservedBy terms words views chief)
     (id : ℕ) (v v' chief' : View) (at : get_elem? views id ≡ some v) (role : v'.role ≡ v.role) (live : v.role ≢ Spent)
     (there : get_elem? (set views id v') chief.place ≡ some chief') (same : SameChief chief.view chief') (steps : Steps words words' chief.view.made v v')
-    (seen : (w : ℕ) → w < 16 → get_or chief'.seen w 0 ≤ units_counted words w) (all_seen : length chief'.seen ≡ 16) where
+    (seen : (w : ℕ) → w < 16 → get_or chief'.seen w 0 ≤ tally words w) (all_seen : length chief'.seen ≡ 16) where
   only_here : (k : ℕ) (u : View) → get_elem? (set views id v') k ≡ some u → u.role ≡ Chief → k ≡ chief.place
   only_here k u e is =
       ⊎_elim (λ t. t.0 ∙ h.only id v at (sym role ∙ ap (λ (x : View). x.role) t.1 ∙ is))
@@ -58,7 +58,7 @@ module _ {terms : Terms} {words words' : List ℕ} {views : List View} {chief : 
   spent_here k u e is =
       ⊎_elim (λ t. absurd (live (sym role ∙ ap (λ (x : View). x.role) t.1 ∙ is))) (λ t. h.spent k u t.1 is) (at_set views id k v' u e)
 
-  mine_here : (w : ℕ) → w < 16 → units_counted words' w ≡ mine_of w (set views id v') + kept_of w chief'.kept
+  mine_here : (w : ℕ) → w < 16 → tally words' w ≡ mine_of w (set views id v') + kept_of w chief'.kept
   mine_here w l =
       let change = sum_at_set (λ (u : View). mine_if w u.role u.mine) views id v v' at in
       let step = steps.mine w l in

@@ -7,7 +7,7 @@ ghost use Rattle.amber_board.specs.Seats.{IsChiefOf, chief_view, board_workers};
 
 use crate::kinds;
 use crate::types::{Board, ChiefSeat};
-use crate::words::{ALLOTMENTS, COUNTS, UNASSIGNED};
+use crate::words::{ALLOTMENTS, APART, COUNTS, UNASSIGNED};
 
 fn total_of(counts: &[u64]) -> u64
     requires { sum counts.now < 2 ^ 64 }
@@ -93,7 +93,7 @@ impl ChiefSeat {
         let counted = board
             .table
             .shared
-            .load::<kinds::Watch>(&mut self.seat, COUNTS + worker as usize);
+            .load::<kinds::Watch>(&mut self.seat, COUNTS + APART * worker as usize);
         self.seen[worker as usize] = counted;
         counted
     }

@@ -1,7 +1,7 @@
 //! The kinds of step: what each makes of the `View` of the seat that makes it.
 
 ghost use Rattle.std.specs.Prelude.{◌≡◌, ℕ, ◌+◌, ◌^◌, ◌≤◌};
-ghost use Rattle.amber_board.specs.Ledger.{worker_number_of};
+ghost use Rattle.amber_board.specs.Ledger.{count_word, worker_number_of};
 ghost use Rattle.amber_board.specs.Moves.{drawn, after_grant, put_back_of, swept, after_watch, after_claim, counted_one, given_back, after_split, new_seat, after_join, spent_view};
 
 use crate::view::View;
@@ -54,7 +54,7 @@ pub(crate) struct Watch;
 
 impl Play<(), View> for Watch {
     ghost then = { λ step me n after.
-        ((w : ℕ) → step.word ≡ 18 + w → after.0 ≡ after_watch me.0 w n) × (after.1 ≡ me.1)
+        ((w : ℕ) → step.word ≡ count_word w → after.0 ≡ after_watch me.0 w n) × (after.1 ≡ me.1)
         × (n ≤ 2 ^ 40) };
 }
 
@@ -79,7 +79,7 @@ impl Play<(), View> for Claim {
 pub(crate) struct Count;
 
 impl Play<(), View> for Count {
-    ghost then = { λ step me n after. (step.word ≡ 18 + worker_number_of me.0.role)
+    ghost then = { λ step me n after. (step.word ≡ count_word (worker_number_of me.0.role))
         × (after.0 ≡ counted_one me.0 (worker_number_of me.0.role)) × (after.1 ≡ me.1)
         × (me.0.mine + 1 ≤ 2 ^ 40) };
 }

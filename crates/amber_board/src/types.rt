@@ -14,7 +14,7 @@ use std::alloc::Global;
 #[derive(Drop)]
 pub struct Board {
     pub(crate) table: Table<(), View, Terms, Rule, Global>,
-    ghost words: { table.shared.table_id.words ≡ 34 },
+    ghost words: { table.shared.table_id.words ≡ 152 },
     ghost slots: { table.shared.table_id.slots ≡ 0 },
 }
 

@@ -6,7 +6,7 @@ ghost use Rattle.amber_board.specs.Seats.{IsSeatOf, work_view, worker_of};
 
 use crate::kinds;
 use crate::types::{Board, WorkSeat};
-use crate::words::{ALLOTMENTS, COUNTS, UNASSIGNED};
+use crate::words::{ALLOTMENTS, APART, COUNTS, UNASSIGNED};
 
 impl WorkSeat {
     /// Moves the allotment into the hand, and says how many units it had: 0 where it was empty at that step.
@@ -35,7 +35,7 @@ impl WorkSeat {
         board
             .table
             .shared
-            .fetch_add::<kinds::Count>(&mut self.seat, COUNTS + self.number as usize, 1);
+            .fetch_add::<kinds::Count>(&mut self.seat, COUNTS + APART * self.number as usize, 1);
         self.hand -= 1;
         self.mine += 1;
     }

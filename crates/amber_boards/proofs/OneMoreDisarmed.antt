@@ -11,7 +11,7 @@ use Rattle.amber_worker.specs.Changes.{disarmed_at}
 use Rattle.amber_worker.specs.WorkerState.{WorkerState}
 use Rattle.amber_dataflow.specs.AtWork.{worker_state_at}
 use Rattle.amber_dataflow.specs.Dataflow.{AreAllThere, DataflowState, hand_of, journal_of, rows_emitted}
-use Rattle.amber_boards.specs.Boards.{AreCounted, AreUnarmedAt, AreWithin, ChangeUnits, ChangesAt, CounterState, DisarmsAll, DisarmsOperator, IsCountedAt, IsWithin, StandInForce, StandsCounted, WritesBack, board_at, has_board, target_at, targets_of}
+use Rattle.amber_boards.specs.Boards.{AreCounted, AreUnarmedAt, AreWithinTargets, ChangeUnits, ChangesAt, CounterState, DisarmsAll, DisarmsOperator, IsCountedAt, IsWithinTarget, StandInForce, StandsCounted, WritesBack, board_at, has_board, target_at, targets_of}
 use Rattle.amber_boards.proofs.OneMoreArmed.{at-place}
 use Rattle.amber_boards.proofs.OthersKept.{counted-kept, other-counted, rows-same, stands-counted, there-still, units-none, units-then}
 
@@ -38,7 +38,7 @@ pub record AreDisarmedTo (boards : List (Option CounterState)) (place : ℕ) (ol
       → worker_state_at new.workers worker ≡ disarmed_at (worker_state_at old.workers worker)
   pub others : (worker : ℕ) → has_board boards (op_of old.flow worker) ≡ false → worker_state_at new.workers worker ≡ worker_state_at old.workers worker
   pub later : (worker : ℕ) → place < op_of old.flow worker → worker_state_at new.workers worker ≡ worker_state_at old.workers worker
-  pub within : (op : ℕ) → 0 < op → op ≤ place → IsWithin (option_map (λ counter. counter.target) (board_at boards op)) (rows_emitted old op)
+  pub within : (op : ℕ) → 0 < op → op ≤ place → IsWithinTarget (option_map (λ counter. counter.target) (board_at boards op)) (rows_emitted old op)
 
 -- none are disarmed
 pub disarmed-none : (boards : List (Option CounterState)) (d : DataflowState) → AreDisarmedTo boards 0 d d
@@ -72,7 +72,7 @@ module _ (boards : List (Option CounterState)) (place : ℕ) (old mid : Dataflow
 
   -- it is disarmed too
   pub disarmed-more : (new : DataflowState) (board : Option CounterState) → board ≡ get_or boards place None → ChangesAt op mid new → (is_some board ≡ true → DisarmsOperator op mid new)
-      → (is_some board ≡ false → new ≡ mid) → AreUnarmedAt op new → IsWithin (option_map (λ counter. counter.target) board) (rows_emitted new op) → AreDisarmedTo boards op old new
+      → (is_some board ≡ false → new ≡ mid) → AreUnarmedAt op new → IsWithinTarget (option_map (λ counter. counter.target) board) (rows_emitted new op) → AreDisarmedTo boards op old new
   disarmed-more new board is changes here none unarmed within =
       let own : board ≡ board_at boards op = is ∙ sym (numbered_or boards place None) in
       let at : (worker : ℕ) → op_of old.flow worker ≡ op → op_of mid.flow worker ≡ op = λ worker e. ap (λ f. op_of f worker) disarmed.units.flow ∙ e in
@@ -107,9 +107,9 @@ module _ (boards : List (Option CounterState)) (place : ℕ) (old mid : Dataflow
         within = λ one some inside.
             elim (eqb_tells one op) [
               | inl same ↦
-                  subst (λ n. IsWithin (option_map (λ (counter : CounterState). counter.target) (board_at boards n)) (rows_emitted old n)) (sym same.1)
-                  (subst (λ b. IsWithin (option_map (λ (counter : CounterState). counter.target) b) (rows_emitted old op)) own
-                  (subst (IsWithin (option_map (λ (counter : CounterState). counter.target) board))
+                  subst (λ n. IsWithinTarget (option_map (λ (counter : CounterState). counter.target) (board_at boards n)) (rows_emitted old n)) (sym same.1)
+                  (subst (λ b. IsWithinTarget (option_map (λ (counter : CounterState). counter.target) b) (rows_emitted old op)) own
+                  (subst (IsWithinTarget (option_map (λ (counter : CounterState). counter.target) board))
                   (rows-same mid new changes.flow changes.same op ∙ rows-same old mid disarmed.units.flow disarmed.units.same op) within))
               | inr other ↦ let apart = other.1 in disarmed.within one some (omega arith)
             ];
@@ -126,18 +126,18 @@ module _ (boards : List (Option CounterState)) (place : ℕ) (old mid : Dataflow
   writes-back worker is = ap (λ (w : WorkerState). w.journal) is
 
   -- no count has counted more than it asks for
-  all-within : length boards ≤ place → AreWithin (targets_of boards) mid
+  all-within : length boards ≤ place → AreWithinTargets (targets_of boards) mid
   all-within all zero = tt
   all-within all (suc n) =
       let some : 0 < suc n = omega arith in
       let rows = rows-same old mid disarmed.units.flow disarmed.units.same (suc n) in
-      subst (λ t. IsWithin t (rows_emitted mid (suc n))) (sym (target-of boards (suc n) some))
+      subst (λ t. IsWithinTarget t (rows_emitted mid (suc n))) (sym (target-of boards (suc n) some))
       (elim (cases_lt place (suc n)) [
         | inl beyond ↦
             let end : length boards ≤ suc n - 1 = omega arith in
-            subst (λ b. IsWithin (option_map (λ (counter : CounterState). counter.target) b) (rows_emitted mid (suc n))) (sym (at-place boards (suc n) some ∙ get_or_past boards (suc n - 1) None end)) tt
+            subst (λ b. IsWithinTarget (option_map (λ (counter : CounterState). counter.target) b) (rows_emitted mid (suc n))) (sym (at-place boards (suc n) some ∙ get_or_past boards (suc n - 1) None end)) tt
         | inr inside ↦
-            subst (IsWithin (option_map (λ (counter : CounterState). counter.target) (board_at boards (suc n)))) (sym rows) (disarmed.within (suc n) some inside)
+            subst (IsWithinTarget (option_map (λ (counter : CounterState). counter.target) (board_at boards (suc n)))) (sym rows) (disarmed.within (suc n) some inside)
       ])
 
   -- behind the boards nobody has a seat

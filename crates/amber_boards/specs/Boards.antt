@@ -118,15 +118,15 @@ IsBelow None rows = Unit {0}
 IsBelow (Some count) rows = IsSince count rows × (rows < count.target + count.since)
 
 -- it has counted no more
-abbrev pub IsWithin : Option Target → ℕ → Type 0
-IsWithin None rows = Unit {0}
-IsWithin (Some count) rows = IsSince count rows × (rows ≤ count.target + count.since)
+abbrev pub IsWithinTarget : Option Target → ℕ → Type 0
+IsWithinTarget None rows = Unit {0}
+IsWithinTarget (Some count) rows = IsSince count rows × (rows ≤ count.target + count.since)
 
 abbrev pub AreBelow : List (Option Target) → DataflowState → Type 0
 AreBelow counts d = (op : ℕ) → IsBelow (target_at counts op) (rows_emitted d op)
 
-abbrev pub AreWithin : List (Option Target) → DataflowState → Type 0
-AreWithin counts d = (op : ℕ) → IsWithin (target_at counts op) (rows_emitted d op)
+abbrev pub AreWithinTargets : List (Option Target) → DataflowState → Type 0
+AreWithinTargets counts d = (op : ℕ) → IsWithinTarget (target_at counts op) (rows_emitted d op)
 
 -- in a leg that began in this state counts were in force just at these operators
 abbrev pub AreInForce : (ℕ → Bool) → State → Type 0
@@ -237,10 +237,10 @@ pub record DisarmsAll (boards : List (Option CounterState)) (old new : DataflowS
   pub writes : (worker : ℕ) → worker < crew_of old.flow → has_board boards (op_of old.flow worker) ≡ true → WritesBack old new worker
   pub others : (worker : ℕ) → worker < crew_of old.flow → has_board boards (op_of old.flow worker) ≡ false
       → worker_state_at new.workers worker ≡ worker_state_at old.workers worker
-  pub within : AreWithin (targets_of boards) new
+  pub within : AreWithinTargets (targets_of boards) new
 
 -- a worker that needs a unit was granted all that are left, and the others of its operator have given theirs back
-pub record HandsOut (boards : List (Option CounterState)) (old new : DataflowState) (worker : ℕ) : Type 0 where
+pub record GrantsAllLeft (boards : List (Option CounterState)) (old new : DataflowState) (worker : ℕ) : Type 0 where
   pub units : ChangeUnits (has_board boards) old new
   pub counter : CounterState
   pub counted : board_at boards (op_of old.flow worker) ≡ Some counter

@@ -5,7 +5,7 @@ ghost use Rattle.std.specs.Prelude.{◌≡◌, ◌≢◌, ℕ, ◌+◌, ◌-◌,
 ghost use Rattle.amber_dataflow.specs.Dataflow.{AreAllThere, has_finished, is_short, journal_of, rows_emitted};
 ghost use Rattle.amber_log.specs.declared.entry.Entry.TheVariants as entry;
 ghost use Rattle.amber_rows.specs.Topology.{crew_of, op_of};
-ghost use Rattle.amber_boards.specs.Boards.{AreBelow, AreCounted, AreLedBy, AreUnarmed, AreUnarmedAt, ArmsAll, ChangesAt, DisarmsAll, DisarmsOperator, HandsOut, HasLeft, IsBelow, IsCountedAt, IsCountedOn, IsLedBy, IsWithin, IsWorkerOf, StandInForce, StandsCounted, WritesBack, board_at, has_board, has_target, targets_of};
+ghost use Rattle.amber_boards.specs.Boards.{AreBelow, AreCounted, AreLedBy, AreUnarmed, AreUnarmedAt, ArmsAll, ChangesAt, DisarmsAll, DisarmsOperator, GrantsAllLeft, HasLeft, IsBelow, IsCountedAt, IsCountedOn, IsLedBy, IsWithinTarget, IsWorkerOf, StandInForce, StandsCounted, WritesBack, board_at, has_board, has_target, targets_of};
 
 use crate::counter::{Counter, arm_operator, disarm_operator, find_board};
 use crate::lent::LentBoards;
@@ -83,7 +83,7 @@ fn disarm_one(counter: Option<Counter>, chief: Option<ChiefSeat>, dataflow: &mut
     ensures disarms { is_some counter ≡ true → DisarmsOperator op dataflow.old dataflow.new }
     ensures none { is_some counter ≡ false → dataflow.new ≡ dataflow.old }
     ensures unarmed { AreUnarmedAt op dataflow.new }
-    ensures within { IsWithin (option_map (λ counter. counter.target) counter)
+    ensures within { IsWithinTarget (option_map (λ counter. counter.target) counter)
         (rows_emitted dataflow.new op) }
 {
     let Some(counter) = counter else {
@@ -257,7 +257,7 @@ impl Boards {
             (rows_emitted dataflow.old (op_of dataflow.old.flow worker)) }
         requires counted { AreCounted self.old dataflow.old }
         requires stand { StandInForce (has_board self.old) dataflow.old }
-        ensures hands { OnOk result (HandsOut self.old dataflow.old dataflow.new worker) }
+        ensures hands { OnOk result (GrantsAllLeft self.old dataflow.old dataflow.new worker) }
         ensures counted { OnOk result (AreCounted self.new dataflow.new) }
         ensures targets { OnOk result (targets_of self.new ≡ targets_of self.old) }
         ensures flow { dataflow.new.flow ≡ dataflow.old.flow }

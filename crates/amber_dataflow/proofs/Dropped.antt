@@ -16,7 +16,7 @@ use Rattle.amber_worker.specs.Changes.{ShowsDropped, held_dropped, row_held}
 use Rattle.amber_worker.specs.WorkerState.{WorkerState, steps_made}
 use Rattle.amber_worker.proofs.Commands.{shows-dropped}
 use Rattle.amber_dataflow.specs.AtWork.{context_in, state_reached, worker_state_at}
-use Rattle.amber_dataflow.specs.Dataflow.{AreHeldByRows, DataflowState, HaveDoneNothing, IsDataflow, StandAt, held_row, is_held, journal_of, row_dropped, step_count}
+use Rattle.amber_dataflow.specs.Dataflow.{AreHeldByRows, DataflowState, HaveDoneNothing, IsDataflow, StandAt, row_held_at, is_held, journal_of, row_dropped, step_count}
 use Rattle.amber_dataflow.proofs.Crews.{at-each, here-now, there-still}
 use Rattle.amber_dataflow.proofs.Reached.{listed-at}
 use Rattle.amber_dataflow.proofs.Renewed.{HasItsEnds, renewed}
@@ -82,7 +82,7 @@ module _ (query : Query) (start : State) (d : DataflowState) (positions : ℕ �
 
   -- one of them, with nothing done since
   at : (k : ℕ) → k < crew_of query.flow → IsAtPosition (context_in stand.work.at.at_positions.bases query start k) (worker_state_at (set crew worker now) k) (dropped_at k) (dropped_at k)
-  unfolding dropped_at journal_of is_held held_row ShowsDropped Leads AreEntries
+  unfolding dropped_at journal_of is_held row_held_at ShowsDropped Leads AreEntries
   at = at-each (λ k. k < crew_of query.flow → IsAtPosition (context_in stand.work.at.at_positions.bases query start k) (worker_state_at (set crew worker now) k) (dropped_at k) (dropped_at k)) worker
       (λ less.
       let w = worker_state_at crew worker in

@@ -22,7 +22,7 @@ use Rattle.amber_meaning.proofs.Numbers.{among, among-first, among-more}
 use Rattle.amber_worker.specs.AtPosition.{placement_of}
 use Rattle.amber_board.specs.declared.types.Board.{Board}
 use Rattle.amber_worker.specs.Counting.{IsBoardOf}
-use Rattle.amber_worker.specs.WorkerState.{IsFree, WorkerState, is_armed, needs_unit, steps_made}
+use Rattle.amber_worker.specs.WorkerState.{IsUnrestrained, WorkerState, is_armed, needs_unit, steps_made}
 use Rattle.amber_dataflow.specs.Answers.{IsGathered, ShowAll, ShowWorkers}
 use Rattle.amber_dataflow.specs.AtWork.{AreAtWork, GoesOn, HaveFinished, IsCrewUnder, IsHeldAt, MakesStepAt, MakesTurnsAt, state_reached, worker_state_at}
 use Rattle.amber_dataflow.specs.Dataflow.{AreAllThere, AreFree, DataflowState, HaveDoneNothing, IsAnswerOf, IsDataflow, IsFirst, IsHeldNow, MadeStep, MovesUnder, ShowAt, StandsUnder, TurnsAt, leg_begun, handed_out, has_finished, has_room, is_armed_at, is_held, is_paused, is_short, have_all_finished, journal_of, rows_emitted, seat_of, step_count, turned_of, units_counted, constant_put, when_put, worker_begun, worker_set, worker_watching}
@@ -94,7 +94,7 @@ module _ (d : DataflowState) (keeps : IsDataflow d) where
   }
 
   -- one of those that are lent is free, where all are and it has not finished
-  pub free-lent : (lent : List WorkerState) (worker : ℕ) → lent ≡ d.workers → AreFree d → (worker_state_at lent worker).finished ≡ false → IsFree (worker_state_at lent worker)
+  pub free-lent : (lent : List WorkerState) (worker : ℕ) → lent ≡ d.workers → AreFree d → (worker_state_at lent worker).finished ≡ false → IsUnrestrained (worker_state_at lent worker)
   unfolding is_held is_paused
   free-lent lent worker is free unfinished = record {
     unfinished = unfinished;

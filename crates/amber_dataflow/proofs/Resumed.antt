@@ -6,7 +6,7 @@ use Rattle.amber_rows.specs.Topology.{workers_of}
 use Rattle.amber_worker.specs.Changes.{resumed_at}
 use Rattle.amber_worker.specs.WorkerState.{WorkerState, steps_made}
 use Rattle.amber_dataflow.specs.AtWork.{KeepsPosition, worker_state_at}
-use Rattle.amber_dataflow.specs.Dataflow.{AreAllThere, AreArmed, DataflowState, IsDataflow, StandAgain, all_resumed, has_finished, have_all_finished, is_held, is_paused, rows_emitted, seat_of, step_count, worker_resumed}
+use Rattle.amber_dataflow.specs.Dataflow.{AreAllThere, AreInArmedLeg, DataflowState, IsDataflow, StandAgain, all_resumed, has_finished, have_all_finished, is_held, is_paused, rows_emitted, seat_of, step_count, worker_resumed}
 use Rattle.amber_dataflow.proofs.Emitted.{emitted-same}
 use Rattle.amber_dataflow.proofs.GoneOn.{stands-again}
 use Rattle.amber_dataflow.proofs.Renewed.{HasItsEnds, renewed}
@@ -47,7 +47,7 @@ stand-resumed d keeps query start positions stand armed =
       },
     )
 
-pub kept-resumed : (d : DataflowState) → IsDataflow d → AreArmed d → ((worker : ℕ) → KeepsPosition (worker_state_at d.workers worker) (worker_state_at (map worker_resumed d.workers) worker)) → IsDataflow (all_resumed d)
+pub kept-resumed : (d : DataflowState) → IsDataflow d → AreInArmedLeg d → ((worker : ℕ) → KeepsPosition (worker_state_at d.workers worker) (worker_state_at (map worker_resumed d.workers) worker)) → IsDataflow (all_resumed d)
 unfolding StandAgain
 kept-resumed d keeps armed each = record {
   flow = keeps.flow;

@@ -19,7 +19,7 @@ use Rattle.amber_worker.specs.AtPosition.{placement_of, stream_to}
 use Rattle.amber_worker.specs.Turning.{HasTurned, IsNextTurn, MakesStep}
 use Rattle.amber_worker.specs.Pairs.{OffersAll, made_for}
 use Rattle.amber_worker.specs.Steps.{held_at}
-use Rattle.amber_worker.specs.WorkerState.{IsFree, WorkerState, is_armed, needs_unit, next_turn, steps_made}
+use Rattle.amber_worker.specs.WorkerState.{IsUnrestrained, WorkerState, is_armed, needs_unit, next_turn, steps_made}
 use Rattle.amber_worker.specs.declared.turn.Turn.{Turn}
 use Rattle.amber_worker.specs.declared.turn.Turn.TheVariants as turn
 use Rattle.amber_worker.proofs.Idle.{has_marked, has_marked-chunks_of, never_idle}
@@ -99,7 +99,7 @@ module _ (query : Query) (start : State) (crew : List WorkerState) (positions : 
 
 -- an unfinished worker that is neither held nor paused, and whose senders have all finished, makes a step or is held by its next row
 pub moves : (crew : List WorkerState) (worker : ℕ) (now d : WorkerState) (done : Turn) → IsCrewUnder (is_armed (worker_state_at crew worker)) worker crew → worker < length crew → HaveFinished worker crew
-    → IsFree (worker_state_at crew worker) → needs_unit (worker_state_at crew worker) ≡ false → IsNextTurn (get_or crew worker d) done → HasTurned done (get_or crew worker d) now
+    → IsUnrestrained (worker_state_at crew worker) → needs_unit (worker_state_at crew worker) ≡ false → IsNextTurn (get_or crew worker d) done → HasTurned done (get_or crew worker d) now
     → MakesStep (worker_state_at crew worker) now ⊎ (now ≡ held_at (worker_state_at crew worker))
 moves crew worker now d done work inside finished may fed is turned =
     by done (subst (λ w. IsNextTurn w done) (read-at crew worker d inside) is) (subst (λ w. HasTurned done w now) (read-at crew worker d inside) turned)

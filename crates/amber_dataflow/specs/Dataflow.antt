@@ -131,12 +131,12 @@ abbrev pub when_put : ℕ → Option Cond → DataflowState → DataflowState
 when_put op when d = record d { workers = map (worker_watching op when) d.workers }
 
 -- the row before which a worker is held, if it is
-unfoldable pub held_row : DataflowState → ℕ → Option (List Value)
-held_row d worker = row_held (worker_state_at d.workers worker)
+unfoldable pub row_held_at : DataflowState → ℕ → Option (List Value)
+row_held_at d worker = row_held (worker_state_at d.workers worker)
 
 -- who is held stands before a row
 abbrev pub AreHeldByRows : DataflowState → Type 0
-AreHeldByRows d = (worker : ℕ) → is_held d worker ≡ true → is_some (held_row d worker) ≡ true
+AreHeldByRows d = (worker : ℕ) → is_held d worker ≡ true → is_some (row_held_at d worker) ≡ true
 
 -- that row was dropped
 abbrev pub row_dropped : ℕ → DataflowState → DataflowState
@@ -195,8 +195,8 @@ abbrev pub AreArmedIn : Query → State → DataflowState → Type 0
 AreArmedIn query start d = (worker : ℕ) → worker < crew_of query.flow → is_counted query start worker ≡ is_armed_at d worker
 
 -- there is such a leg
-abbrev pub AreArmed : DataflowState → Type 0
-AreArmed d = (query : Query) × (start : State) × (positions : ℕ → Position) × StandAt query start d positions × AreArmedIn query start d
+abbrev pub AreInArmedLeg : DataflowState → Type 0
+AreInArmedLeg d = (query : Query) × (start : State) × (positions : ℕ → Position) × StandAt query start d positions × AreArmedIn query start d
 
 -- there is a leg in which a count is in force at this worker's operator, or one in which none is
 abbrev pub StandsUnder : Bool → DataflowState → ℕ → Type 0

@@ -11,7 +11,7 @@ ghost use Rattle.amber_meaning.specs.Position.{origin};
 ghost use Rattle.amber_meaning.specs.State.{start_of};
 ghost use Rattle.amber_dataflow.specs.Dataflow as dataflow;
 ghost use Rattle.amber_dataflow.specs.AtWork.{steps_by};
-ghost use Rattle.amber_dataflow.specs.Dataflow.{AreAllThere, AreArmed, AreBack, AreCrewOf, AreFree, AreHeldByRows, HaveDoneNothing, IsAnswerOf, IsFirst, ShowAt, StandAgain, StandAt, StandsUnder, StepsAt};
+ghost use Rattle.amber_dataflow.specs.Dataflow.{AreAllThere, AreInArmedLeg, AreBack, AreCrewOf, AreFree, AreHeldByRows, HaveDoneNothing, IsAnswerOf, IsFirst, ShowAt, StandAgain, StandAt, StandsUnder, StepsAt};
 ghost use Rattle.amber_dataflow.specs.Dataflow.{all_resumed, constant_put, handed_out, is_armed_at, is_short, leg_begun, leg_parts, row_dropped, seat_of, step_count, when_put, without_workers};
 
 mod units;
@@ -150,7 +150,7 @@ impl Dataflow {
     /// Each worker goes on that was paused. After running out of memory no worker is left.
     pub fn resume(&mut self) -> Result<(), AllocError>
         requires loose { (worker : ℕ) → dataflow.is_held self.old worker ≡ false }
-        requires armed { AreArmed self.old }
+        requires armed { AreInArmedLeg self.old }
         ensures ok { OnOk result (self.new ≡ all_resumed self.old) }
         ensures stand { OnOk result (StandAgain self.old self.new) }
         ensures err { OnErr result (self.new ≡ without_workers self.old) }
@@ -225,7 +225,7 @@ impl Dataflow {
         requires there { worker < crew_of self.old.flow }
         requires rest { HaveDoneNothing self.old }
         requires rows { AreHeldByRows self.old }
-        ensures row { result ≡ dataflow.held_row self.old worker }
+        ensures row { result ≡ dataflow.row_held_at self.old worker }
         ensures only { self.new ≡ row_dropped worker self.old }
     {
         self.workers[worker as usize].drop_held()
@@ -235,7 +235,7 @@ impl Dataflow {
     pub fn held_row(&self, worker: u32) -> Option<&Row>
         requires workers { AreAllThere self.now }
         requires there { worker < crew_of self.now.flow }
-        ensures { option_map (λ row. row.now) result ≡ dataflow.held_row self.now worker }
+        ensures { option_map (λ row. row.now) result ≡ dataflow.row_held_at self.now worker }
     {
         self.workers[worker as usize].held_row()
     }

@@ -4,7 +4,7 @@ ghost use Rattle.std.specs.Prelude.{◌≡◌, ◌⊎◌, ◌^◌, ◌<◌, OnOk
 ghost use Rattle.std.specs.List.{list_all};
 ghost use Rattle.std.specs.Option.{option_copied};
 ghost use Rattle.amber_worker.specs.Counting.{IsBoardOf};
-ghost use Rattle.amber_worker.specs.WorkerState.{IsFree, is_armed, needs_unit, steps_made};
+ghost use Rattle.amber_worker.specs.WorkerState.{IsUnrestrained, is_armed, needs_unit, steps_made};
 ghost use Rattle.amber_dataflow.specs.AtWork.{HaveFinished, IsCrewUnder, IsHeldAt, MakesStepAt, MakesTurnsAt, worker_state_at};
 
 use crate::settling::settle_worker;
@@ -23,7 +23,7 @@ pub(crate) fn step_worker(
     requires there { number < length crew.old }
     requires crew { IsCrewUnder (is_armed (worker_state_at crew.old number)) number crew.old }
     requires first { HaveFinished number crew.old }
-    requires free { IsFree (worker_state_at crew.old number) }
+    requires free { IsUnrestrained (worker_state_at crew.old number) }
     requires fed { needs_unit (worker_state_at crew.old number) ≡ false }
     requires own { IsBoardOf (option_copied board) (worker_state_at crew.old number).seat }
     requires few { steps_made (worker_state_at crew.old number) < 2 ^ 40 }

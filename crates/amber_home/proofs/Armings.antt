@@ -10,13 +10,13 @@ use Rattle.amber_dataflow.specs.Dataflow.{DataflowState, hand_of, journal_of, le
 use Rattle.amber_dataflow.specs.Parts.{parts_from}
 use Rattle.amber_dataflow.proofs.Standing.{journal-entries}
 use Rattle.amber_boards.specs.declared.target.Target.{Target}
-use Rattle.amber_boards.specs.Boards.{AreCounted, AreEmptyHanded, AreUnarmed, AreWithin, ArmsAll, CounterState, DisarmsAll, IsWithin, StandInForce, has_board, has_target, targets_of}
+use Rattle.amber_boards.specs.Boards.{AreCounted, AreEmptyHanded, AreUnarmed, AreWithinTargets, ArmsAll, CounterState, DisarmsAll, IsWithinTarget, StandInForce, has_board, has_target, targets_of}
 use Rattle.amber_home.specs.Asked.{Asked}
 use Rattle.amber_home.specs.Going.{AreReady, GoOn}
-use Rattle.amber_home.specs.HomeState.{DisarmsLeg, GivesBack, HomeState, counts_in, hand_at, is_open, query_of, rest_state, runs_to_end, state_of}
+use Rattle.amber_home.specs.HomeState.{DisarmsLeg, WritesGivenBack, HomeState, counts_in, hand_at, is_open, query_of, rest_state, runs_to_end, state_of}
 use Rattle.amber_home.specs.Parts.{open_parts}
 use Rattle.amber_home.specs.Kept.{IsWithinLeg, LiveState}
-use Rattle.amber_home.specs.Leg.{AreEmptyOf, counts_asked, is_counted}
+use Rattle.amber_home.specs.Leg.{AreEmptyOf, counts_asked, is_count_asked}
 use Rattle.amber_home.specs.declared.phase.Counts.{Counts}
 use Rattle.amber_home.specs.declared.phase.Counts.TheVariants.{Armed, Disarmed, Unarmed}
 use Rattle.amber_home.specs.declared.phase.Phase.{Phase}
@@ -31,11 +31,11 @@ use Rattle.amber_home.proofs.Ready.{boards-counted, target-board, targets-board}
 use Rattle.amber_home.proofs.Reached.{target-asked}
 
 -- what is asked for at each operator is in force there
-pub asked-counted : (arms : List Asked) (op : ℕ) → has_target (counts_asked arms) op ≡ is_counted arms op
+pub asked-counted : (arms : List Asked) (op : ℕ) → has_target (counts_asked arms) op ≡ is_count_asked arms op
 asked-counted arms op = ap is_some (target-asked arms op)
 
 -- a home stands in a leg with the counts that it keeps
-pub stands-leg : (e : HomeState) (d : DataflowState) (arms : List Asked) (to_end : Bool) → IsWithinLeg to_end e d arms → StandInForce (is_counted arms) d
+pub stands-leg : (e : HomeState) (d : DataflowState) (arms : List Asked) (to_end : Bool) → IsWithinLeg to_end e d arms → StandInForce (is_count_asked arms) d
 stands-leg e d arms to_end leg =
     (query_of e, leg_start to_end (rest_state e), leg.positions, leg.at, in-force-counted e.flow (leg_start to_end (rest_state e)) arms leg.in_force)
 
@@ -56,13 +56,13 @@ parts-same number (w ∷ old) (v ∷ new) long same =
 -- ---- no hand holds a unit
 
 -- of those whose operator counts, and of the others
-pub all-empty : (to_end : Bool) (e : HomeState) (d : DataflowState) (arms : List Asked) (leg : IsWithinLeg to_end e d arms) → IsLegal (query_of e) e.log → AreEmptyOf (is_counted arms) d → AreEmptyHanded d
-all-empty to_end e d arms leg legal empty worker inside = by (is_counted arms (op_of d.flow worker)) refl
+pub all-empty : (to_end : Bool) (e : HomeState) (d : DataflowState) (arms : List Asked) (leg : IsWithinLeg to_end e d arms) → IsLegal (query_of e) e.log → AreEmptyOf (is_count_asked arms) d → AreEmptyHanded d
+all-empty to_end e d arms leg legal empty worker inside = by (is_count_asked arms (op_of d.flow worker)) refl
   where
-    by : (b : Bool) → is_counted arms (op_of d.flow worker) ≡ b → hand_of d worker ≡ 0
+    by : (b : Bool) → is_count_asked arms (op_of d.flow worker) ≡ b → hand_of d worker ≡ 0
     by true is = empty worker inside is
     by false is = empty-here to_end e d arms leg legal worker (subst (λ (f : List Operator). worker < crew_of f) leg.at.flow inside)
-        (ap (λ (f : List Operator). is_counted arms (op_of f worker)) (sym leg.at.flow) ∙ is)
+        (ap (λ (f : List Operator). is_count_asked arms (op_of f worker)) (sym leg.at.flow) ∙ is)
 
 module _ (e : HomeState) (live : LiveState) (to_end : Bool) where
   abbrev d : DataflowState
@@ -93,7 +93,7 @@ module _ (e : HomeState) (live : LiveState) (to_end : Bool) where
   -- ---- counts are disarmed
 
   module _ (counts : Counts) (leg : IsLeg e live to_end counts) (after : DataflowState) (on : GoOn arms d after) (few : step_count after ≤ e.most)
-      (within : AreWithin (counts_asked arms) after) (unarmed : AreUnarmed after) (empty : AreEmptyOf (is_counted arms) after) (boards : List (Option CounterState)) (none : boards ≡ []) where
+      (within : AreWithinTargets (counts_asked arms) after) (unarmed : AreUnarmed after) (empty : AreEmptyOf (is_count_asked arms) after) (boards : List (Option CounterState)) (none : boards ≡ []) where
     later : IsWithinLeg to_end e after arms
     later = within-on to_end e d after arms leg.leg on few
 
@@ -112,40 +112,40 @@ module _ (e : HomeState) (live : LiveState) (to_end : Bool) where
     pub disarmed-few : step_count after ≤ e.most
     disarmed-few = let same = units-steps (has_board live.boards) d after disarms.units in let few = leg.leg.few in omega arith
 
-    pub disarmed-within : AreWithin (counts_asked arms) after
+    pub disarmed-within : AreWithinTargets (counts_asked arms) after
     disarmed-within op =
-        subst (λ count. IsWithin count (rows_emitted after op))
+        subst (λ count. IsWithinTarget count (rows_emitted after op))
         (target-board live.boards op ∙ ready.targets op ∙ sym (target-asked arms op)) (disarms.within op)
 
-    pub disarmed-empty : AreEmptyOf (is_counted arms) after
+    pub disarmed-empty : AreEmptyOf (is_count_asked arms) after
     disarmed-empty worker inside counted =
         disarms.empty worker (subst (λ (f : List Operator). worker < crew_of f) disarms.units.flow inside)
-        (boards-counted arms live.boards ready.targets (op_of d.flow worker) ∙ ap (λ (f : List Operator). is_counted arms (op_of f worker)) (sym disarms.units.flow) ∙ counted)
+        (boards-counted arms live.boards ready.targets (op_of d.flow worker) ∙ ap (λ (f : List Operator). is_count_asked arms (op_of f worker)) (sym disarms.units.flow) ∙ counted)
 
     pub gives-back : (later : IsWithinLeg to_end e after arms) (worker : ℕ) → worker < crew_of e.flow
-        → GivesBack (at_work to_end Armed e d arms leg.leg leg.legal) (at_work to_end Disarmed e after arms later leg.legal) worker
+        → WritesGivenBack (at_work to_end Armed e d arms leg.leg leg.legal) (at_work to_end Disarmed e after arms later leg.legal) worker
     unfolding journal_of
     gives-back later worker inside =
         journal-entries after worker
-        ∙ by (is_counted arms (op_of d.flow worker)) refl
+        ∙ by (is_count_asked arms (op_of d.flow worker)) refl
         ∙ ap (λ n. with_back n (journal_of d worker)) (sym (hand-within to_end Armed e d arms leg.leg leg.legal worker inside))
         ∙ ap (with_back (hand_at (at_work to_end Armed e d arms leg.leg leg.legal) worker)) (sym (journal-entries d worker))
       where
         there : worker < crew_of d.flow
         there = subst (λ (f : List Operator). worker < crew_of f) (sym leg.leg.at.flow) inside
 
-        by : (b : Bool) → is_counted arms (op_of d.flow worker) ≡ b → journal_of after worker ≡ with_back (hand_of d worker) (journal_of d worker)
+        by : (b : Bool) → is_count_asked arms (op_of d.flow worker) ≡ b → journal_of after worker ≡ with_back (hand_of d worker) (journal_of d worker)
         by true is = disarms.writes worker there (boards-counted arms live.boards ready.targets (op_of d.flow worker) ∙ is)
         by false is =
             ap (λ (w : WorkerState). w.journal) (disarms.others worker there (boards-counted arms live.boards ready.targets (op_of d.flow worker) ∙ is))
             ∙ ap (λ n. with_back n (journal_of d worker))
-            (sym (empty-here to_end e d arms leg.leg leg.legal worker inside (ap (λ (f : List Operator). is_counted arms (op_of f worker)) (sym leg.leg.at.flow) ∙ is)))
+            (sym (empty-here to_end e d arms leg.leg leg.legal worker inside (ap (λ (f : List Operator). is_count_asked arms (op_of f worker)) (sym leg.leg.at.flow) ∙ is)))
 
     pub disarmed-leg : (boards : List (Option CounterState)) → boards ≡ [] → IsLeg e (record live { dataflow = after; boards = boards }) to_end Disarmed
     disarmed-leg boards none = leg-disarmed Armed leg after disarmed-on disarmed-few disarmed-within disarms.unarmed disarmed-empty boards none
 
 -- once boards are closed all is settled
-settled-now : (e : HomeState) (to_end : Bool) (d : DataflowState) (arms : List Asked) (leg : IsWithinLeg to_end e d arms) (legal : IsLegal (query_of e) e.log) → AreEmptyHanded d → AreWithin (counts_asked arms) d
+settled-now : (e : HomeState) (to_end : Bool) (d : DataflowState) (arms : List Asked) (leg : IsWithinLeg to_end e d arms) (legal : IsLegal (query_of e) e.log) → AreEmptyHanded d → AreWithinTargets (counts_asked arms) d
     → IsSettled (query_of e) (state_of (at_work to_end Disarmed e d arms leg legal))
 unfolding state_of
 settled-now e to_end d arms leg legal empty within = settled-here to_end e d arms leg legal empty within

@@ -10,7 +10,7 @@ use Rattle.amber_meaning.specs.declared.view.Stop.{Stop}
 use Rattle.amber_meaning.specs.Legal.{IsSettled, stops_in}
 use Rattle.amber_meaning.specs.State.{State, steps_in}
 use Rattle.amber_meaning.specs.Stops.{op_numbers}
-use Rattle.amber_boards.specs.Boards.{AreBelow, AreWithin, IsBelow, IsWithin, target_at}
+use Rattle.amber_boards.specs.Boards.{AreBelow, AreWithinTargets, IsBelow, IsWithinTarget, target_at}
 use Rattle.amber_boards.specs.declared.target.Target.{Target}
 use Rattle.amber_dataflow.specs.Dataflow.{DataflowState, handed_out, leg_parts, rows_emitted}
 use Rattle.amber_dataflow.proofs.Numbered.{length-ops, nth-numbers}
@@ -37,7 +37,7 @@ none-counted : (arms : List Asked) (d : DataflowState) (op : ℕ) → is_stopped
 none-counted arms d op none = (or_parts (stands_after (pause_at arms op) (rows_emitted d op)) (is_reached (count_at arms op) (rows_emitted d op)) none).1
 
 -- what is below its target where it is within, and has not reached it
-below-left : (count : Option Target) (rows : ℕ) → is_reached count rows ≡ false → IsWithin count rows → IsBelow count rows
+below-left : (count : Option Target) (rows : ℕ) → is_reached count rows ≡ false → IsWithinTarget count rows → IsBelow count rows
 below-left None rows none within = tt
 below-left (Some count) rows none within =
     elim (eqb_tells rows (count.target + count.since)) [
@@ -49,7 +49,7 @@ below-left (Some count) rows none within =
     less-by m n most apart = elim (cases_lt m n) [ inl less ↦ less | inr past ↦ absurd (apart (let past = past in omega arith)) ]
 
 -- so it is of what a cut leaves
-below-cut : (count : Option Target) (rows : ℕ) → IsWithin count rows → IsBelow (if is_reached count rows then None else count) rows
+below-cut : (count : Option Target) (rows : ℕ) → IsWithinTarget count rows → IsBelow (if is_reached count rows then None else count) rows
 below-cut count rows within = by (is_reached count rows) refl
   where
     by : (b : Bool) → is_reached count rows ≡ b → IsBelow (if b then None else count) rows
@@ -72,7 +72,7 @@ asked-below : (now : List Asked) (op rows : ℕ) → IsBelow (count_at now op) r
 asked-below now op rows below = subst (λ count. IsBelow count rows) (sym (target-asked now op)) below
 
 -- once a leg is closed no count has been reached
-closed-below : (e : HomeState) (live : LiveState) (to_end : Bool) (counts : Counts) → IsLeg e live to_end counts → AreWithin (counts_asked live.arms) live.dataflow → (closed : Close)
+closed-below : (e : HomeState) (live : LiveState) (to_end : Bool) (counts : Counts) → IsLeg e live to_end counts → AreWithinTargets (counts_asked live.arms) live.dataflow → (closed : Close)
     → ClosesIn to_end (query_of e) (leg_state e to_end (leg_parts live.dataflow)) closed → AreBelow (counts_asked (closed_arms to_end closed live.arms live.dataflow)) live.dataflow
 closed-below e live true counts leg within closed closes op =
     asked-below live.arms op (rows_emitted live.dataflow op)
@@ -81,7 +81,7 @@ closed-below e live false counts leg within close.Cut closes op =
     asked-below (cut_arms live.arms live.dataflow) op (rows_emitted live.dataflow op)
     (subst (λ count. IsBelow count (rows_emitted live.dataflow op)) (sym (cut-count live.arms live.dataflow op (leg.leg.in_force.all ∙ ap length (sym leg.leg.at.flow))))
     (below-cut (count_at live.arms op) (rows_emitted live.dataflow op)
-    (subst (λ count. IsWithin count (rows_emitted live.dataflow op)) (target-asked live.arms op) (within op))))
+    (subst (λ count. IsWithinTarget count (rows_emitted live.dataflow op)) (target-asked live.arms op) (within op))))
 closed-below e live false counts leg within close.Long closes op =
     let d = live.dataflow in
     let begin = start false e d live.arms leg.leg leg.legal in
@@ -91,7 +91,7 @@ closed-below e live false counts leg within close.Long closes op =
     (rows-within false e d live.arms leg.leg leg.legal) none in
     asked-below live.arms op (rows_emitted d op)
     (below-left (count_at live.arms op) (rows_emitted d op) (none-counted live.arms d op (goes.none op))
-    (subst (λ count. IsWithin count (rows_emitted d op)) (target-asked live.arms op) (within op)))
+    (subst (λ count. IsWithinTarget count (rows_emitted d op)) (target-asked live.arms op) (within op)))
 
 -- a leg is closed
 pub home-closed : (e : HomeState) (live : LiveState) (to_end : Bool) (counts : Counts) → IsLeg e live to_end counts → (counts ≡ Armed → ⊥)

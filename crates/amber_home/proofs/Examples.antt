@@ -27,7 +27,7 @@ use Rattle.amber_worker.specs.Steps.{with_go}
 use Rattle.amber_worker.specs.Turning.{WritesStep}
 use Rattle.amber_worker.proofs.ExampleFlow.{from_two}
 use Rattle.amber_home.specs.Asked.{Asked, no_asked}
-use Rattle.amber_home.specs.HomeState.{HandsOut, HomeState, IsAsFar, IsHeldNext, IsLeftAlone, MakesStep, StepsOn, first_unfinished, next_worker, query_of, state_of}
+use Rattle.amber_home.specs.HomeState.{HandsOut, HomeState, IsAsFar, IsHeldNext, IsLeftAlone, NextMakesStep, StepsOn, first_unfinished, next_worker, query_of, state_of}
 use Rattle.amber_dataflow.specs.Dataflow.{DataflowState}
 use Rattle.amber_dataflow.proofs.Standing.{stand-there}
 use Rattle.amber_home.specs.Kept.{IsHome, LiveState}
@@ -90,10 +90,10 @@ unfolding homes_on_literals
 none_handed fed handed = let wrong = handed.counted in cc
 
 -- so a step is one of the home as it was
-one_alone : (new : HomeState) → StepsOn before new → (MakesStep before new ⊎ IsHeldNext before new) × ((worker : ℕ) → worker ≢ next_worker before → IsLeftAlone before new worker)
+one_alone : (new : HomeState) → StepsOn before new → (NextMakesStep before new ⊎ IsHeldNext before new) × ((worker : ℕ) → worker ≢ next_worker before → IsLeftAlone before new worker)
 one_alone new steps = elim steps.feeds [
   | inl same ↦
-      subst (λ (fed : HomeState). (MakesStep fed new ⊎ IsHeldNext fed new) × ((worker : ℕ) → worker ≢ next_worker fed → IsLeftAlone fed new worker)) same (steps.does, steps.others)
+      subst (λ (fed : HomeState). (NextMakesStep fed new ⊎ IsHeldNext fed new) × ((worker : ℕ) → worker ≢ next_worker fed → IsLeftAlone fed new worker)) same (steps.does, steps.others)
   | inr handed ↦ absurd (none_handed steps.fed handed)
 ]
 

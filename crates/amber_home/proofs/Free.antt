@@ -13,7 +13,7 @@ use Rattle.amber_dataflow.proofs.Standing.{stand-position}
 use Rattle.amber_home.specs.Asked.{Asked}
 use Rattle.amber_home.specs.HomeState.{HomeState, NoneIsPaused, has_crew, is_open, query_of, state_of, stops_of_home}
 use Rattle.amber_home.specs.Kept.{IsHome, LiveState}
-use Rattle.amber_home.specs.Leg.{GoesOn, IsCut, stops_by}
+use Rattle.amber_home.specs.Leg.{LegGoesOn, IsCut, stops_by}
 use Rattle.amber_home.specs.declared.phase.Phase.{Phase}
 use Rattle.amber_home.specs.declared.phase.Phase.TheVariants as phase
 use Rattle.amber_home.proofs.HeldRows.{rows-within}
@@ -35,7 +35,7 @@ past-running d all worker past = ap (λ (w : WorkerState). w.restraint.paused) (
 -- ---- no stop
 
 -- where no stop stands
-pub goes-none : (arms : List Asked) (d : DataflowState) → length arms ≡ length d.flow → AreAllThere d → AreHeldByRows d → stops_by arms d ≡ [] → GoesOn arms d
+pub goes-none : (arms : List Asked) (d : DataflowState) → length arms ≡ length d.flow → AreAllThere d → AreHeldByRows d → stops_by arms d ≡ [] → LegGoesOn arms d
 goes-none arms d long all rows none = record {
   loose = λ worker. elim (cases_lt worker (crew_of d.flow)) [
     | inl inside ↦ false_from_ne_true _ (λ held. stops-some arms d long rows (inl (worker, inside, held)) none)
@@ -58,7 +58,7 @@ module _ (e : HomeState) (live : LiveState) where
 
   -- where no stop stands
   pub goes-home : (now : Phase) → IsHome (record e { phase = now }) live → is_open now ≡ true → live.dataflow.flow ≡ e.flow
-      → stops_of_home (in_phase e live now) ≡ [] → GoesOn live.arms live.dataflow
+      → stops_of_home (in_phase e live now) ≡ [] → LegGoesOn live.arms live.dataflow
   goes-home now home within same none =
       goes-none live.arms live.dataflow (long-open e live now home within ∙ ap length (sym same)) (home-there e live now home (open-there now within))
       (rows-open now home within) (stops-open e live now home within (stops_by live.arms live.dataflow) refl ∙ none)

@@ -7,7 +7,7 @@ use Rattle.amber_dataflow.proofs.Resumed.{resumed-there}
 use Rattle.amber_boards.specs.Boards.{ChangeUnits, CounterState, StandInForce}
 use Rattle.amber_home.specs.Asked.{Asked}
 use Rattle.amber_home.specs.Going.{AreReady, GoOn}
-use Rattle.amber_home.specs.Leg.{is_counted}
+use Rattle.amber_home.specs.Leg.{is_count_asked}
 use Rattle.amber_home.proofs.Driven.{turned-resumed, turned-units}
 use Rattle.amber_home.proofs.Ready.{armed-in}
 
@@ -40,7 +40,7 @@ resumed-on arms boards old new ready is again = record {
 }
 
 -- units change hands
-pub units-on : (arms : List Asked) (counted : ℕ → Rattle.std.proofs.Common.Bool) (old new : DataflowState) → ((op : ℕ) → counted op ≡ is_counted arms op) → ChangeUnits counted old new → GoOn arms old new
+pub units-on : (arms : List Asked) (counted : ℕ → Rattle.std.proofs.Common.Bool) (old new : DataflowState) → ((op : ℕ) → counted op ≡ is_count_asked arms op) → ChangeUnits counted old new → GoOn arms old new
 units-on arms counted old new same units = record {
   flow = units.flow;
   there = λ all. units.long ∙ all ∙ ap crew_of (sym units.flow);
@@ -58,5 +58,5 @@ on-then arms a b c first second = record {
 }
 
 -- and stand somewhere in the same leg
-pub stand-on : (arms : List Asked) (old new : DataflowState) → GoOn arms old new → StandInForce (is_counted arms) old → StandInForce (is_counted arms) new
+pub stand-on : (arms : List Asked) (old new : DataflowState) → GoOn arms old new → StandInForce (is_count_asked arms) old → StandInForce (is_count_asked arms) new
 stand-on arms old new on stand = let next = on.on stand.0 stand.1 stand.2 stand.3 stand.4 in (stand.0, stand.1, next.0, next.1, stand.4)

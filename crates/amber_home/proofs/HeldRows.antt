@@ -11,7 +11,7 @@ use Rattle.amber_meaning.specs.Position.{Position, Restraint}
 use Rattle.amber_meaning.specs.State.{State, position_at}
 use Rattle.amber_worker.specs.WorkerState.{WorkerState}
 use Rattle.amber_dataflow.specs.AtWork.{no_worker_state, worker_state_at}
-use Rattle.amber_dataflow.specs.Dataflow.{AreHeldByRows, DataflowState, StandAt, held_row, is_held}
+use Rattle.amber_dataflow.specs.Dataflow.{AreHeldByRows, DataflowState, StandAt, row_held_at, is_held}
 use Rattle.amber_dataflow.proofs.Standing.{stand-all, stand-position}
 use Rattle.amber_home.specs.Asked.{Asked}
 use Rattle.amber_home.specs.HomeState.{HomeState, query_of, rest_state}
@@ -28,7 +28,7 @@ behind-some (suc n) (x ∷ xs) less = behind-some n xs (omega arith)
 module _ (query : Query) (start : State) (d : DataflowState) (positions : ℕ → Position) (stand : StandAt query start d positions) where
   -- where the positions are bounded
   pub rows-bounded : ((worker : ℕ) → worker < crew_of query.flow → IsBounded (role_in query worker) (positions worker)) → AreHeldByRows d
-  unfolding is_held held_row Rattle.amber_worker.specs.AtPosition.placement_of
+  unfolding is_held row_held_at Rattle.amber_worker.specs.AtPosition.placement_of
   rows-bounded bounded worker held =
       elim (cases_lt worker (crew_of query.flow)) [
         | inl inside ↦

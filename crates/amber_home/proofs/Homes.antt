@@ -7,7 +7,7 @@ use Rattle.amber_log.specs.declared.leg.Part.{Part}
 use Rattle.amber_meaning.specs.Legal.{IsLegal, leg_start}
 use Rattle.amber_dataflow.specs.Dataflow.{AreAllThere, DataflowState, leg_begun, leg_parts, rows_emitted, step_count}
 use Rattle.amber_dataflow.proofs.Standing.{begun-parts, stand-there}
-use Rattle.amber_boards.specs.Boards.{AreWithin, CounterState, IsBelow, IsWithin, target_at}
+use Rattle.amber_boards.specs.Boards.{AreWithinTargets, CounterState, IsBelow, IsWithinTarget, target_at}
 use Rattle.amber_boards.specs.declared.target.Target.{Target}
 use Rattle.amber_home.specs.Asked.{Asked, without_asked}
 use Rattle.amber_home.specs.Going.{GoOn}
@@ -176,10 +176,10 @@ leg-on e live to_end counts later leg after boards on few stand = record {
 }
 
 -- once boards are closed, or before they are made
-pub disarmed : (live : LiveState) (counts : Counts) → (counts ≡ Armed → ⊥) → CountsStand counts live.arms live.boards live.dataflow → AreWithin (counts_asked live.arms) live.dataflow × HaveNoUnits live.boards live.dataflow
+pub disarmed : (live : LiveState) (counts : Counts) → (counts ≡ Armed → ⊥) → CountsStand counts live.arms live.boards live.dataflow → AreWithinTargets (counts_asked live.arms) live.dataflow × HaveNoUnits live.boards live.dataflow
 disarmed live Unarmed not stand = ((λ op. by (target_at (counts_asked live.arms) op) (rows_emitted live.dataflow op) (stand.0 op)), stand.1)
   where
-    by : (count : Option Target) (rows : ℕ) → IsBelow count rows → IsWithin count rows
+    by : (count : Option Target) (rows : ℕ) → IsBelow count rows → IsWithinTarget count rows
     by None rows below = tt
     by (Some count) rows below = (below.0, let less = below.1 in omega arith)
 disarmed live Armed not stand = absurd (not refl)

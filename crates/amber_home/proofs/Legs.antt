@@ -11,20 +11,20 @@ use Rattle.amber_meaning.proofs.Senders.{flows_send_forward}
 use Rattle.amber_dataflow.specs.AtWork.{state_reached}
 use Rattle.amber_dataflow.specs.Dataflow.{DataflowState, hand_of, leg_parts, step_count}
 use Rattle.amber_dataflow.proofs.Standing.{stand-after, stand-flow, stand-steps}
-use Rattle.amber_boards.specs.Boards.{AreEmptyHanded, AreInForce, AreWithin}
+use Rattle.amber_boards.specs.Boards.{AreEmptyHanded, AreInForce, AreWithinTargets}
 use Rattle.amber_boards.specs.declared.target.Target.{Target}
 use Rattle.amber_home.specs.Asked.{Asked, IsCountOf, IsInForce}
 use Rattle.amber_home.specs.Going.{GoOn}
 use Rattle.amber_home.specs.HomeState.{HomeState, leg_state, query_of, rest_state}
 use Rattle.amber_home.specs.Kept.{IsWithinLeg}
-use Rattle.amber_home.specs.Leg.{count_at, counts_asked, is_counted, pause_at}
+use Rattle.amber_home.specs.Leg.{count_at, counts_asked, is_count_asked, pause_at}
 use Rattle.amber_home.proofs.Counted.{count-none}
 use Rattle.amber_home.proofs.Opened.{position-start}
 use Rattle.amber_home.proofs.Places.{at-map}
 use Rattle.amber_home.proofs.Reached.{empty-reached, settled-reached}
 
 -- a count is in force just where one is kept
-pub in-force-counted : (flow : List Operator) (state : State) (arms : List Asked) → IsInForce flow state arms → AreInForce (is_counted arms) state
+pub in-force-counted : (flow : List Operator) (state : State) (arms : List Asked) → IsInForce flow state arms → AreInForce (is_count_asked arms) state
 in-force-counted flow state arms is op = by (crew_at flow state op) (count_at arms op) (arms_at state op).count (is.each op).count
   where
     by : (crew : List Position) (kept : Option Target) (count : Option Counting) → IsCountOf crew kept count → is_some count ≡ is_some kept
@@ -61,7 +61,7 @@ module _ (to_end : Bool) (e : HomeState) (d : DataflowState) (arms : List Asked)
       ∙ ap (λ (s : State). (position_at s.positions worker).restraint.hand) first ∙ (legal_logs_rest (query_of e) e.log legal).hands worker inside
 
   -- nor does one where no count is in force
-  pub empty-here : (worker : ℕ) → worker < crew_of e.flow → is_counted arms (op_of e.flow worker) ≡ false → hand_of d worker ≡ 0
+  pub empty-here : (worker : ℕ) → worker < crew_of e.flow → is_count_asked arms (op_of e.flow worker) ≡ false → hand_of d worker ≡ 0
   empty-here worker inside uncounted =
       empty-reached (query_of e) start d leg.positions leg.at worker inside (in-force-counted e.flow start arms leg.in_force (op_of e.flow worker) ∙ uncounted) (hands-begun worker inside)
 
@@ -70,7 +70,7 @@ module _ (to_end : Bool) (e : HomeState) (d : DataflowState) (arms : List Asked)
   state-here = stand-after (query_of e) start d leg.positions leg.at
 
   -- there all is settled, and the steps are few enough
-  pub settled-here : AreEmptyHanded d → AreWithin (counts_asked arms) d → IsSettled (query_of e) (leg_state e to_end (leg_parts d))
+  pub settled-here : AreEmptyHanded d → AreWithinTargets (counts_asked arms) d → IsSettled (query_of e) (leg_state e to_end (leg_parts d))
   settled-here empty within =
       subst (IsSettled (query_of e)) (sym state-here) (settled-reached (query_of e) start d leg.positions leg.at arms leg.in_force empty within)
 

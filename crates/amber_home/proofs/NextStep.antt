@@ -6,7 +6,7 @@ use Rattle.amber_meaning.specs.State.{State, arms_at, crew_at, steps_in}
 use Rattle.amber_meaning.proofs.Crews.{op-within}
 use Rattle.amber_dataflow.specs.AtWork.{state_reached}
 use Rattle.amber_dataflow.specs.Dataflow.{DataflowState, leg_parts, rows_emitted, seat_of, step_count}
-use Rattle.amber_boards.specs.Boards.{AreBelow, AreUnarmed, AreWithin, CounterState, IsBelow, IsCountedAt, IsWithin, IsWorkerOf, board_at, target_at, target_of_count, targets_of}
+use Rattle.amber_boards.specs.Boards.{AreBelow, AreUnarmed, AreWithinTargets, CounterState, IsBelow, IsCountedAt, IsWithinTarget, IsWorkerOf, board_at, target_at, target_of_count, targets_of}
 use Rattle.amber_boards.specs.declared.target.Target.{Target}
 use Rattle.amber_home.specs.Asked.{Asked}
 use Rattle.amber_home.specs.Going.{AreReady, GoOn, StepsNext}
@@ -72,10 +72,10 @@ ready-step e live now leg within armed = ready-by live (counts_in now) leg.stand
 -- ---- how counts stand after it
 
 -- what is below its targets is within them
-below-within : (counts : List (Option Target)) (d : DataflowState) → AreBelow counts d → AreWithin counts d
+below-within : (counts : List (Option Target)) (d : DataflowState) → AreBelow counts d → AreWithinTargets counts d
 below-within counts d below op = by (target_at counts op) (rows_emitted d op) (below op)
   where
-    by : (count : Option Target) (rows : ℕ) → IsBelow count rows → IsWithin count rows
+    by : (count : Option Target) (rows : ℕ) → IsBelow count rows → IsWithinTarget count rows
     by None rows below = tt
     by (Some count) rows below = (below.0, let less = below.1 in omega arith)
 

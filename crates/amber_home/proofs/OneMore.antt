@@ -22,7 +22,7 @@ use Rattle.amber_boards.specs.Boards.{ChangeUnits, CounterState, board_at, has_b
 use Rattle.amber_boards.specs.declared.target.Target.{Target}
 use Rattle.amber_home.specs.Asked.{Asked, IsCountOf, IsTargetOf}
 use Rattle.amber_home.specs.Going.{FirstSteps, GoOn, StepsNext}
-use Rattle.amber_home.specs.HomeState.{GivesBack, HandsOut, HomeState, IsFed, IsHeldNext, IsLeftAlone, MakesStep, StepsOn, count_in, first_unfinished, hand_at, has_rows, next_worker, alone_more, query_of, rest_state, state_of}
+use Rattle.amber_home.specs.HomeState.{WritesGivenBack, HandsOut, HomeState, IsFed, IsHeldNext, IsLeftAlone, NextMakesStep, StepsOn, count_in, first_unfinished, hand_at, has_rows, next_worker, alone_more, query_of, rest_state, state_of}
 use Rattle.amber_home.specs.Kept.{IsWithinLeg, LiveState}
 use Rattle.amber_home.specs.Leg.{count_at}
 use Rattle.amber_home.specs.declared.phase.Counts.{Counts}
@@ -96,7 +96,7 @@ module _ (to_end : Bool) (counts : Counts) (e : HomeState) (d : DataflowState) (
 
 -- of the first that has not finished, and of another
 pub record StepsIn (old new : HomeState) : Type 0 where
-  pub does : MakesStep old new ⊎ IsHeldNext old new
+  pub does : NextMakesStep old new ⊎ IsHeldNext old new
   pub others : (worker : ℕ) → worker ≢ next_worker old → IsLeftAlone old new worker
 
 module _ (to_end : Bool) (counts : Counts) (e : HomeState) (d after : DataflowState) (arms : List Asked) (leg : IsWithinLeg to_end e d arms) (later : IsWithinLeg to_end e after arms)
@@ -160,7 +160,7 @@ short-rows d worker short = (and_parts (is_starved (worker_state_at d.workers wo
 
 module _ (to_end : Bool) (counts : Counts) (e : HomeState) (d fed : DataflowState) (arms : List Asked) (boards : List (Option CounterState)) (leg : IsWithinLeg to_end e d arms)
     (later : IsWithinLeg to_end e fed arms) (legal : IsLegal (query_of e) e.log) (targets : (op : ℕ) → target_of_count (board_at boards op) ≡ count_at arms op)
-    (worker : ℕ) (is : IsFirst d worker) (short : is_short d worker ≡ true) (handed : units.HandsOut boards d fed worker) where
+    (worker : ℕ) (is : IsFirst d worker) (short : is_short d worker ≡ true) (handed : units.GrantsAllLeft boards d fed worker) where
   abbrev query : Query
   query = query_of e
 
@@ -205,7 +205,7 @@ module _ (to_end : Bool) (counts : Counts) (e : HomeState) (d fed : DataflowStat
       omega arith
 
   -- what the other workers of its operator have written
-  gives : (other : ℕ) → other < crew_of e.flow → other ≢ worker → op_of e.flow other ≡ op → GivesBack before after other
+  gives : (other : ℕ) → other < crew_of e.flow → other ≢ worker → op_of e.flow other ≡ op → WritesGivenBack before after other
   gives other there apart same =
       let own = handed.own other (subst (λ (f : List Operator). other < crew_of f) (sym leg.at.flow) there, ap (λ (f : List Operator). op_of f other) leg.at.flow ∙ same ∙ sym same-op) apart in
       journal-entries fed other ∙ own

@@ -10,7 +10,7 @@ use Rattle.amber_meaning.specs.Stops.{held_stop}
 use Rattle.amber_worker.specs.WorkerState.{WorkerState}
 use Rattle.amber_worker.specs.Changes.{resumed_at}
 use Rattle.amber_dataflow.specs.AtWork.{worker_state_at}
-use Rattle.amber_dataflow.specs.Dataflow.{AreArmed, DataflowState, StandAgain, all_resumed, is_held, is_paused, journal_of, step_count}
+use Rattle.amber_dataflow.specs.Dataflow.{AreInArmedLeg, DataflowState, StandAgain, all_resumed, is_held, is_paused, journal_of, step_count}
 use Rattle.amber_dataflow.proofs.Reached.{listed-past}
 use Rattle.amber_dataflow.proofs.Resumed.{resumed-all, resumed-at, resumed-rows, resumed-running, resumed-steps}
 use Rattle.amber_dataflow.proofs.Standing.{journal-entries, stand-position}
@@ -101,7 +101,7 @@ module _ (e : HomeState) (live : LiveState) where
   ]
 
   -- its workers are armed as counts are in force
-  pub armed-home : (now : Phase) → IsHome (record e { phase = now }) live → (within : is_open now ≡ true) → home_state.AreArmed (record e { phase = now; parts = open_parts now live }) → AreArmed live.dataflow
+  pub armed-home : (now : Phase) → IsHome (record e { phase = now }) live → (within : is_open now ≡ true) → home_state.AreArmed (record e { phase = now; parts = open_parts now live }) → AreInArmedLeg live.dataflow
   armed-home now home within armed =
       let leg = leg-of e live now home within in
       all-armed live.arms live.boards live.dataflow (ready-step e live now leg within armed) (stands-leg e live.dataflow live.arms (runs_to_end now) leg.leg)

@@ -16,7 +16,7 @@ use Rattle.amber_dataflow.specs.AtWork.{state_reached, worker_state_at}
 use Rattle.amber_dataflow.specs.Dataflow.{DataflowState, StandAt, hand_of, leg_parts, rows_emitted}
 use Rattle.amber_dataflow.proofs.Reached.{listed-at}
 use Rattle.amber_dataflow.proofs.Standing.{stand-emitted, stand-position, stand-worked}
-use Rattle.amber_boards.specs.Boards.{AreEmptyHanded, AreWithin, IsWithin, target_at}
+use Rattle.amber_boards.specs.Boards.{AreEmptyHanded, AreWithinTargets, IsWithinTarget, target_at}
 use Rattle.amber_boards.specs.declared.target.Target.{Target}
 use Rattle.amber_rows.specs.declared.flow.Operator.{Operator}
 use Rattle.amber_home.specs.Asked.{Asked, IsCountOf, IsInForce, emitted_of, no_asked}
@@ -70,7 +70,7 @@ pub target-asked : (arms : List Asked) (op : ℕ) → target_at (counts_asked ar
 target-asked arms op = at-map (λ (asked : Asked). asked.count) arms op no_asked None refl
 
 -- a count that is within its target has counted no more
-within-count : (crew : List Position) (kept : Option Target) (counting : Counting) → IsCountOf crew kept (Some counting) → IsWithin kept (emitted_of crew)
+within-count : (crew : List Position) (kept : Option Target) (counting : Counting) → IsCountOf crew kept (Some counting) → IsWithinTarget kept (emitted_of crew)
     → counted_by counting.base crew ≤ counting.target
 within-count crew None counting is within = absurd is
 within-count crew (Some kept) counting is within =
@@ -111,7 +111,7 @@ module _ (query : Query) (start : State) (d : DataflowState) (positions : ℕ �
       (leads-at worker inside)
 
   -- where no hand holds a unit, and no count has counted more than it asks for
-  pub settled-reached : (arms : List Asked) → IsInForce query.flow start arms → AreEmptyHanded d → AreWithin (counts_asked arms) d → IsSettled query (state_reached query start positions)
+  pub settled-reached : (arms : List Asked) → IsInForce query.flow start arms → AreEmptyHanded d → AreWithinTargets (counts_asked arms) d → IsSettled query (state_reached query start positions)
   unfolding emitted_by
   settled-reached arms is empty within = record {
     hands = λ worker inside.
@@ -121,6 +121,6 @@ module _ (query : Query) (start : State) (d : DataflowState) (positions : ℕ �
         let now = state_reached query start positions in
         within-count (crew_at query.flow now op) (count_at arms op) counting
         (subst (IsCountOf (crew_at query.flow now op) (count_at arms op)) counts ((in-force-reached arms is).each op).count)
-        (subst (IsWithin (count_at arms op)) (sym (stand-emitted query start d positions stand op))
-        (subst (λ count. IsWithin count (rows_emitted d op)) (target-asked arms op) (within op)));
+        (subst (IsWithinTarget (count_at arms op)) (sym (stand-emitted query start d positions stand op))
+        (subst (λ count. IsWithinTarget count (rows_emitted d op)) (target-asked arms op) (within op)));
   }

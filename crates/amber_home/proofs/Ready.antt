@@ -11,11 +11,11 @@ use Rattle.amber_meaning.specs.State.{State, arms_at}
 use Rattle.amber_meaning.proofs.Crews.{op-within}
 use Rattle.amber_worker.specs.Counting.{IsBoardOf, IsSameSeat}
 use Rattle.amber_dataflow.specs.AtWork as work
-use Rattle.amber_dataflow.specs.Dataflow.{AreArmed, DataflowState, StandAt, StandsUnder, TurnsAt, all_resumed, has_room, is_armed_at, rows_emitted, seat_of, units_counted}
+use Rattle.amber_dataflow.specs.Dataflow.{AreInArmedLeg, DataflowState, StandAt, StandsUnder, TurnsAt, all_resumed, has_room, is_armed_at, rows_emitted, seat_of, units_counted}
 use Rattle.amber_boards.specs.Boards.{AreInForce, AreUnarmed, CounterState, HasSeat, IsCountedAt, IsCountedOn, IsWorkerOf, StandInForce, board_at, has_board, target_at, target_of_count, targets_of}
 use Rattle.amber_home.specs.Asked.{Asked}
 use Rattle.amber_home.specs.Going.{AreReady}
-use Rattle.amber_home.specs.Leg.{count_at, counts_asked, is_counted}
+use Rattle.amber_home.specs.Leg.{count_at, counts_asked, is_count_asked}
 use Rattle.amber_home.proofs.Places.{at-map, nth-past}
 use Rattle.amber_home.proofs.Reached.{target-asked}
 use Rattle.amber_home.proofs.Units.{counted-kept, keep-resumed, resumed-room}
@@ -37,7 +37,7 @@ targets-still arms old new same targets op =
     sym (target-board new op) ∙ ap (λ counts. target_at counts op) same ∙ target-board old op ∙ targets op
 
 -- there is a board just where a count is in force
-pub boards-counted : (arms : List Asked) (boards : List (Option CounterState)) → ((op : ℕ) → target_of_count (board_at boards op) ≡ count_at arms op) → (op : ℕ) → has_board boards op ≡ is_counted arms op
+pub boards-counted : (arms : List Asked) (boards : List (Option CounterState)) → ((op : ℕ) → target_of_count (board_at boards op) ≡ count_at arms op) → (op : ℕ) → has_board boards op ≡ is_count_asked arms op
 boards-counted arms boards same op = by (board_at boards op) ∙ ap is_some (same op)
   where
     by : (found : Option CounterState) → is_some found ≡ is_some (target_of_count found)
@@ -78,22 +78,22 @@ module _ (arms : List Asked) (boards : List (Option CounterState)) (d : Dataflow
   pub own-board : IsBoardOf (option_map (λ (c : CounterState). c.board) (board_at boards op)) (seat_of d worker)
   own-board = own-by (board_at boards op) op d worker here (inside, refl)
 
-  pub armed-counted : is_counted arms op ≡ is_armed_at d worker
+  pub armed-counted : is_count_asked arms op ≡ is_armed_at d worker
   armed-counted =
       sym (boards-counted arms boards ready.targets op) ∙ armed-by (board_at boards op) op d worker here (inside, refl)
 
   -- in a leg with these counts
-  pub armed-in : (query : Query) (start : State) (positions : ℕ → Position) → StandAt query start d positions → AreInForce (is_counted arms) start
+  pub armed-in : (query : Query) (start : State) (positions : ℕ → Position) → StandAt query start d positions → AreInForce (is_count_asked arms) start
       → work.is_counted query start worker ≡ is_armed_at d worker
   armed-in query start positions stand in_force =
       ap (λ (f : List Operator). is_some (arms_at start (op_of f worker)).count) (sym stand.flow) ∙ in_force op ∙ armed-counted
 
   -- and there is such a leg
-  pub stands-under : StandInForce (is_counted arms) d → StandsUnder (is_armed_at d worker) d worker
+  pub stands-under : StandInForce (is_count_asked arms) d → StandsUnder (is_armed_at d worker) d worker
   stands-under stand = (stand.0, stand.1, stand.2, stand.3, armed-in stand.0 stand.1 stand.2 stand.3 stand.4)
 
 -- so are all
-pub all-armed : (arms : List Asked) (boards : List (Option CounterState)) (d : DataflowState) → AreReady arms boards d → StandInForce (is_counted arms) d → AreArmed d
+pub all-armed : (arms : List Asked) (boards : List (Option CounterState)) (d : DataflowState) → AreReady arms boards d → StandInForce (is_count_asked arms) d → AreInArmedLeg d
 all-armed arms boards d ready stand = (
   stand.0,
   stand.1,

@@ -10,7 +10,7 @@ use Rattle.amber_meaning.specs.State.{State, position_at, worker_at}
 use Rattle.amber_meaning.specs.Transcript as transcript
 use Rattle.amber_worker.specs.AtPosition.{placement_of}
 use Rattle.amber_dataflow.specs.AtWork.{state_reached, worker_state_at}
-use Rattle.amber_dataflow.specs.Dataflow.{DataflowState, StandAt, held_row}
+use Rattle.amber_dataflow.specs.Dataflow.{DataflowState, StandAt, row_held_at}
 use Rattle.amber_dataflow.proofs.Standing.{stand-position}
 use Rattle.amber_home.specs.Applied.{HasDropped, dropped_row}
 use Rattle.amber_home.specs.HomeState.{HomeState, dropped_in, query_of, rest_state}
@@ -21,8 +21,8 @@ use Rattle.amber_home.proofs.Opened.{listed-rest}
 
 -- wherever workers stand
 pub held-row : (query : Query) (start : State) (d : DataflowState) (positions : ℕ → Position) → StandAt query start d positions → (worker : ℕ) → worker < crew_of query.flow
-    → held_row d worker ≡ transcript.held_row query (state_reached query start positions) worker
-unfolding held_row placement_of
+    → row_held_at d worker ≡ transcript.held_row query (state_reached query start positions) worker
+unfolding row_held_at placement_of
 held-row query start d positions stand worker inside =
     let shows = (stand.work.at.at_positions.each worker inside).shows in
     let w = worker_state_at d.workers worker in
@@ -41,7 +41,7 @@ module _ (e : HomeState) (live : LiveState) where
       by (Some w) inside =
           let rest = at-rest e live home resting in
           let same : worker_at live.dataflow.flow effect.op w ≡ worker_at e.flow effect.op w = ap (λ (f : List Operator). worker_at f effect.op w) rest.at.flow in
-          ap (held_row live.dataflow) same
+          ap (row_held_at live.dataflow) same
           ∙ held-row (query_of e) (rest_state e) live.dataflow (position_at (rest_state e).positions) rest.at (worker_at e.flow effect.op w)
           (subst (λ (f : List Operator). worker_at f effect.op w < crew_of f) rest.at.flow inside)
           ∙ ap (λ (s : State). transcript.held_row (query_of e) s (worker_at e.flow effect.op w)) (listed-rest e live rest home.legal)

@@ -14,7 +14,7 @@ use Rattle.amber_meaning.specs.State.{Counting, State, arms_at, crew_at, emitted
 use Rattle.amber_meaning.specs.Stops.{count_stop, count_stops, end_stop, held_stop, held_stops, op_numbers, pause_stop, pause_stops, stops_of}
 use Rattle.amber_meaning.proofs.Numbers.{among, among-first, among-more, among_step, below-in, in-below, in-row}
 use Rattle.amber_dataflow.specs.AtWork.{state_reached, worker_state_at}
-use Rattle.amber_dataflow.specs.Dataflow.{AreHeldByRows, DataflowState, StandAt, held_row, is_held, rows_emitted}
+use Rattle.amber_dataflow.specs.Dataflow.{AreHeldByRows, DataflowState, StandAt, row_held_at, is_held, rows_emitted}
 use Rattle.amber_dataflow.proofs.Standing.{stand-emitted, stand-finished, stand-position}
 use Rattle.amber_home.specs.Asked.{Asked, IsCountOf, IsInForce, asked_at, is_reached, is_stopped_after, no_asked, stands_after}
 use Rattle.amber_home.specs.Leg.{IsCut, count_at, counts_of, held_of, other_stops, pause_at, pauses_of, stop_at_end, stop_of_count, stop_of_pause, stop_of_worker, stops_by}
@@ -160,13 +160,13 @@ by-row op place false pending row is = rw (← is) refl
 by-row op place true [] row is = rw (← is) refl
 by-row op place true (first ∷ pending) row is = rw (← is) refl
 
-pub stop-of-none : (d : DataflowState) (worker : ℕ) → held_row d worker ≡ None → stop_of_worker d worker ≡ []
-unfolding held_row
+pub stop-of-none : (d : DataflowState) (worker : ℕ) → row_held_at d worker ≡ None → stop_of_worker d worker ≡ []
+unfolding row_held_at
 stop-of-none d worker is = by-row _ _ _ _ None is
 
-pub stop-of-row : (d : DataflowState) (worker : ℕ) (row : List Value) → held_row d worker ≡ Some row
+pub stop-of-row : (d : DataflowState) (worker : ℕ) (row : List Value) → row_held_at d worker ≡ Some row
     → stop_of_worker d worker ≡ stop.Held (op_of d.flow worker) (worker - first_worker_of d.flow (op_of d.flow worker)) row ∷ []
-unfolding held_row
+unfolding row_held_at
 stop-of-row d worker row is = by-row _ _ _ _ (Some row) is
 
 -- who is held has a stop
@@ -179,7 +179,7 @@ held-stands op place true (row ∷ pending) is some none = cons-nil none
     cons-nil e = cc
 
 worker-stands : (d : DataflowState) → AreHeldByRows d → (worker : ℕ) → is_held d worker ≡ true → stop_of_worker d worker ≢ []
-unfolding is_held held_row
+unfolding is_held row_held_at
 worker-stands d rows worker held =
     held-stands (op_of d.flow worker) (worker - first_worker_of d.flow (op_of d.flow worker)) (worker_state_at d.workers worker).restraint.held
     (worker_state_at d.workers worker).pending held (rows worker held)

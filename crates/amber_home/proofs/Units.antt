@@ -10,7 +10,7 @@ use Rattle.amber_dataflow.specs.Parts.{without_journal}
 use Rattle.amber_dataflow.proofs.Crews.{at-each, here-now, there-still}
 use Rattle.amber_dataflow.proofs.Emitted.{emitted-same}
 use Rattle.amber_dataflow.proofs.Units.{units-same}
-use Rattle.amber_boards.specs.Boards.{AreBelow, AreCounted, AreEmptyHanded, AreUnarmed, AreWithin, CounterState, IsCountedAt, board_at}
+use Rattle.amber_boards.specs.Boards.{AreBelow, AreCounted, AreEmptyHanded, AreUnarmed, AreWithinTargets, CounterState, IsCountedAt, board_at}
 use Rattle.amber_boards.specs.declared.target.Target.{Target}
 
 -- a worker keeps its seat, its hand and the rows that it has emitted
@@ -105,7 +105,7 @@ module _ (old new : DataflowState) (keep : KeepUnits old new) where
   pub below-kept : (counts : List (Option Target)) → AreBelow counts old → AreBelow counts new
   below-kept counts below op = rw (rows-kept op) (below op)
 
-  pub within-kept : (counts : List (Option Target)) → AreWithin counts old → AreWithin counts new
+  pub within-kept : (counts : List (Option Target)) → AreWithinTargets counts old → AreWithinTargets counts new
   within-kept counts within op = rw (rows-kept op) (within op)
 
   -- where they keep the room in their journals too, all is counted on the same boards

@@ -1,6 +1,6 @@
 -- What a command that is done at rest leaves: of what is in force, and of the workers.
 use Rattle.std.specs.Prelude.{ℕ, ◌<◌, ◌≤◌, List, [], ◌∷◌, ◌++◌, replicate, Option, None, Some}
-use Rattle.amber_dataflow.specs.Dataflow.{DataflowState, constant_put, held_row, row_dropped, when_put}
+use Rattle.amber_dataflow.specs.Dataflow.{DataflowState, constant_put, row_held_at, row_dropped, when_put}
 use Rattle.amber_log.specs.declared.effect.Change.{Change}
 use Rattle.amber_log.specs.declared.effect.Change.TheVariants as change
 use Rattle.amber_log.specs.declared.effect.Effect.{Effect}
@@ -43,7 +43,7 @@ without_dropped op (Some worker) d = row_dropped (worker_at d.flow op worker) d
 -- that row
 abbrev pub dropped_row : ℕ → Option ℕ → DataflowState → Option (List Value)
 dropped_row op None d = None
-dropped_row op (Some worker) d = held_row d (worker_at d.flow op worker)
+dropped_row op (Some worker) d = row_held_at d (worker_at d.flow op worker)
 
 -- the workers
 abbrev pub dataflow_after : Effect → DataflowState → DataflowState

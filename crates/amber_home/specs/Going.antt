@@ -1,19 +1,19 @@
 -- Workers that go on, on the boards of the counts that are in force.
 use Rattle.std.specs.Prelude.{◌≡◌, ◌⊎◌, ℕ, List, Option, true}
 use Rattle.amber_rows.specs.Topology.{op_of}
-use Rattle.amber_boards.specs.Boards.{AreCounted, AreInForce, CounterState, HandsOut, board_at, has_board, target_of_count}
+use Rattle.amber_boards.specs.Boards.{AreCounted, AreInForce, CounterState, GrantsAllLeft, board_at, has_board, target_of_count}
 use Rattle.amber_dataflow.specs.Dataflow.{AreAllThere, DataflowState, IsFirst, StandAt, StepsAt, has_finished, have_all_finished, is_armed_at, is_short, rows_emitted, step_count, turned_of}
 use Rattle.amber_meaning.specs.Legal.{Query}
 use Rattle.amber_meaning.specs.Position.{Position}
 use Rattle.amber_meaning.specs.State.{State}
 use Rattle.amber_home.specs.Asked.{Asked}
-use Rattle.amber_home.specs.Leg.{count_at, is_counted, is_stopped, stops_by}
+use Rattle.amber_home.specs.Leg.{count_at, is_count_asked, is_stopped, stops_by}
 
 -- of whatever query they are the workers, in a leg with these counts, they have moved on
 pub record GoOn (arms : List Asked) (old new : DataflowState) : Type 0 where
   pub flow : new.flow ≡ old.flow
   pub there : AreAllThere old → AreAllThere new
-  pub on : (query : Query) (start : State) (positions : ℕ → Position) → StandAt query start old positions → AreInForce (is_counted arms) start
+  pub on : (query : Query) (start : State) (positions : ℕ → Position) → StandAt query start old positions → AreInForce (is_count_asked arms) start
       → (later : ℕ → Position) × StandAt query start new later
   -- nobody was driven
   pub undriven : (worker : ℕ) → turned_of new worker ≡ turned_of old worker
@@ -40,7 +40,7 @@ pub record FirstSteps (old new : DataflowState) : Type 0 where
 
 -- units were handed to a worker, where it needs one and has none
 abbrev pub IsFedAt : List (Option CounterState) → DataflowState → DataflowState → ℕ → Type 0
-IsFedAt boards old new worker = (new ≡ old) ⊎ ((is_short old worker ≡ true) × HandsOut boards old new worker)
+IsFedAt boards old new worker = (new ≡ old) ⊎ ((is_short old worker ≡ true) × GrantsAllLeft boards old new worker)
 
 -- a worker may need a unit and have none: it has finished, or a stop stands at its operator
 abbrev pub MayStarve : List Asked → DataflowState → ℕ → Type 0

@@ -250,7 +250,7 @@ pub record ResumesLeg (old new : HomeState) : Type 0 where
   pub far : IsAsFar old new
 
 -- one step was made, which the next worker has written
-pub record MakesStep (old new : HomeState) : Type 0 where
+pub record NextMakesStep (old new : HomeState) : Type 0 where
   pub one : steps_in (state_of new) ≡ steps_in (state_of old) + 1
   pub writes : WritesStep (entries_of old.parts (next_worker old)) (entries_of new.parts (next_worker old))
 
@@ -285,8 +285,8 @@ abbrev pub AreArmed : HomeState → Type 0
 AreArmed e = (counts_in e.phase ≡ Armed) ⊎ NoneIsCounted e
 
 -- a worker has written that its hand was given back, if it held units
-abbrev pub GivesBack : HomeState → HomeState → ℕ → Type 0
-GivesBack old new worker = entries_of new.parts worker ≡ with_back (hand_at old worker) (entries_of old.parts worker)
+abbrev pub WritesGivenBack : HomeState → HomeState → ℕ → Type 0
+WritesGivenBack old new worker = entries_of new.parts worker ≡ with_back (hand_at old worker) (entries_of old.parts worker)
 
 -- a worker has a row pending, or one left to take
 abbrev pub has_rows : Query → State → ℕ → Bool
@@ -302,7 +302,7 @@ pub record HandsOut (old new : HomeState) : Type 0 where
   pub wants : has_rows (query_of old) (state_of old) (next_worker old) ≡ true
   pub grant : entries_of new.parts (next_worker old) ≡ entries_of old.parts (next_worker old)
       ++ entry.Grant (counting.target - counted_at old.flow (state_of old) (op_of old.flow (next_worker old)) counting) ∷ []
-  pub own : (worker : ℕ) → worker < crew_of old.flow → worker ≢ next_worker old → op_of old.flow worker ≡ op_of old.flow (next_worker old) → GivesBack old new worker
+  pub own : (worker : ℕ) → worker < crew_of old.flow → worker ≢ next_worker old → op_of old.flow worker ≡ op_of old.flow (next_worker old) → WritesGivenBack old new worker
   pub others : (worker : ℕ) → op_of old.flow worker ≢ op_of old.flow (next_worker old) → entries_of new.parts worker ≡ entries_of old.parts worker
 
 -- units were handed out, since the next worker needs one and has none, or were not
@@ -324,12 +324,12 @@ pub record StepsOn (old new : HomeState) : Type 0 where
   pub only : new ≡ record old { parts = new.parts; alone = alone_more old.alone }
   pub fed : HomeState
   pub feeds : IsFed old fed
-  pub does : MakesStep fed new ⊎ IsHeldNext fed new
+  pub does : NextMakesStep fed new ⊎ IsHeldNext fed new
   pub others : (worker : ℕ) → worker ≢ next_worker fed → IsLeftAlone fed new worker
 
 -- the boards are closed: each worker's hand was given back, and it is as far as it was
 pub record DisarmsLeg (old new : HomeState) : Type 0 where
   pub only : new ≡ record old { parts = new.parts; phase = phase.Open (runs_to_end old.phase) Disarmed }
-  pub writes : (worker : ℕ) → worker < crew_of old.flow → GivesBack old new worker
+  pub writes : (worker : ℕ) → worker < crew_of old.flow → WritesGivenBack old new worker
   pub settled : IsSettled (query_of new) (state_of new)
   pub far : IsAsFar old new

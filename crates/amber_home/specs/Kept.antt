@@ -10,7 +10,7 @@ use Rattle.amber_meaning.specs.Position.{Position}
 use Rattle.amber_meaning.specs.State.{position_at}
 use Rattle.amber_worker.specs.WorkerState.{WorkerState}
 use Rattle.amber_home.specs.Asked.{Asked, IsInForce}
-use Rattle.amber_boards.specs.Boards.{AreBelow, AreEmptyHanded, AreUnarmed, AreWithin, CounterState}
+use Rattle.amber_boards.specs.Boards.{AreBelow, AreEmptyHanded, AreUnarmed, AreWithinTargets, CounterState}
 use Rattle.amber_home.specs.HomeState.{HomeState, query_of, rest_state}
 use Rattle.amber_home.specs.Going.{AreReady}
 use Rattle.amber_home.specs.Leg.{counts_asked}
@@ -67,7 +67,7 @@ pub record IsAway (to_end : Bool) (e : HomeState) (arms : List Asked) : Type 0 w
 abbrev pub CountsStand : Counts → List Asked → List (Option CounterState) → DataflowState → Type 0
 CountsStand Unarmed arms boards d = AreBelow (counts_asked arms) d × HaveNoUnits boards d
 CountsStand Armed arms boards d = AreReady arms boards d
-CountsStand Disarmed arms boards d = AreWithin (counts_asked arms) d × HaveNoUnits boards d
+CountsStand Disarmed arms boards d = AreWithinTargets (counts_asked arms) d × HaveNoUnits boards d
 
 -- workers that came back are those of the leg, counted on its boards
 pub record AreUnsettled (to_end : Bool) (e : HomeState) (live : LiveState) : Type 0 where

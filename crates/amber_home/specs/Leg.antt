@@ -34,8 +34,8 @@ abbrev pub counts_asked : List Asked → List (Option Target)
 counts_asked arms = map (λ asked. asked.count) arms
 
 -- a count is in force at an operator
-abbrev pub is_counted : List Asked → ℕ → Bool
-is_counted arms op = is_some (count_at arms op)
+abbrev pub is_count_asked : List Asked → ℕ → Bool
+is_count_asked arms op = is_some (count_at arms op)
 
 -- of the workers of operators that count no hand holds a unit
 abbrev pub AreEmptyOf : (ℕ → Bool) → DataflowState → Type 0
@@ -55,7 +55,7 @@ IsCut arms d =
     ((worker : ℕ) × (worker < crew_of d.flow) × (is_held d worker ≡ true)) ⊎ (((op : ℕ) × (is_stopped arms d op ≡ true)) ⊎ (have_all_finished d ≡ true))
 
 -- none does
-pub record GoesOn (arms : List Asked) (d : DataflowState) : Type 0 where
+pub record LegGoesOn (arms : List Asked) (d : DataflowState) : Type 0 where
   pub loose : (worker : ℕ) → is_held d worker ≡ false
   pub none : NoneStands arms d
   pub unfinished : have_all_finished d ≡ false

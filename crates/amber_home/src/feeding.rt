@@ -5,7 +5,7 @@ ghost use Rattle.std.specs.Prelude.{◌≡◌, ◌+◌, ◌%◌, ◌<◌, ◌≤
 ghost use Rattle.amber_boards.specs.Boards.{StandInForce};
 ghost use Rattle.amber_dataflow.specs.Dataflow.{AreAllThere};
 ghost use Rattle.amber_home.specs.Going.{AreAsFar, AreReady, GoOn};
-ghost use Rattle.amber_home.specs.Leg.{is_counted};
+ghost use Rattle.amber_home.specs.Leg.{is_count_asked};
 ghost use Rattle.amber_rows.specs.Topology.{crew_of, first_worker_of, worker_count};
 
 use crate::in_force::InForce;
@@ -37,7 +37,7 @@ pub(crate) fn feed_each(
 ) -> Result<(), AllocError>
     requires workers { AreAllThere dataflow.old }
     requires counted { AreReady arms.now boards.old dataflow.old }
-    requires stand { StandInForce (is_counted arms.now) dataflow.old }
+    requires stand { StandInForce (is_count_asked arms.now) dataflow.old }
     ensures on { OnOk result (GoOn arms.now dataflow.old dataflow.new) }
     ensures far { OnOk result (AreAsFar arms.now dataflow.old dataflow.new) }
     ensures counted { OnOk result (AreReady arms.now boards.new dataflow.new) }

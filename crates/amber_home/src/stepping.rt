@@ -5,7 +5,7 @@ ghost use Rattle.std.specs.Prelude.{◌≡◌, ◌^◌, ◌<◌, OnErr, OnOk, fa
 ghost use Rattle.amber_boards.specs.Boards.{StandInForce, targets_of};
 ghost use Rattle.amber_dataflow.specs.Dataflow.{AreAllThere, AreFree, has_finished, have_all_finished, is_short, step_count};
 ghost use Rattle.amber_home.specs.Going.{AreReady, GoOn, IsFedAt, MayStarve, StepsNext};
-ghost use Rattle.amber_home.specs.Leg.{NoneStands, is_counted, is_stopped};
+ghost use Rattle.amber_home.specs.Leg.{NoneStands, is_count_asked, is_stopped};
 ghost use Rattle.amber_rows.specs.Topology.{crew_of, op_of};
 
 use crate::in_force::InForce;
@@ -26,7 +26,7 @@ fn feed(
     requires unfinished { has_finished dataflow.old worker ≡ false }
     requires none { is_stopped arms.now dataflow.old (op_of dataflow.old.flow worker) ≡ false }
     requires counted { AreReady arms.now boards.old dataflow.old }
-    requires stand { StandInForce (is_counted arms.now) dataflow.old }
+    requires stand { StandInForce (is_count_asked arms.now) dataflow.old }
     ensures fed { OnOk result (IsFedAt boards.old dataflow.old dataflow.new worker) }
     ensures short { OnOk result (is_short dataflow.new worker ≡ false) }
     ensures counted { OnOk result (AreReady arms.now boards.new dataflow.new) }
@@ -50,7 +50,7 @@ pub(crate) fn feed_in_turn(
     requires workers { AreAllThere dataflow.old }
     requires there { worker < crew_of dataflow.old.flow }
     requires counted { AreReady arms.now boards.old dataflow.old }
-    requires stand { StandInForce (is_counted arms.now) dataflow.old }
+    requires stand { StandInForce (is_count_asked arms.now) dataflow.old }
     ensures fed { OnOk result (IsFedAt boards.old dataflow.old dataflow.new worker) }
     ensures short { OnOk result (is_short dataflow.new worker ≡ true
         → MayStarve arms.now dataflow.new worker) }
@@ -80,7 +80,7 @@ pub(crate) fn step_next(
     requires none { NoneStands arms.now dataflow.old }
     requires few { step_count dataflow.old < 2 ^ 40 }
     requires counted { AreReady arms.now boards.old dataflow.old }
-    requires stand { StandInForce (is_counted arms.now) dataflow.old }
+    requires stand { StandInForce (is_count_asked arms.now) dataflow.old }
     ensures on { OnOk result (GoOn arms.now dataflow.old dataflow.new) }
     ensures steps { OnOk result (StepsNext boards.old dataflow.old dataflow.new) }
     ensures counted { OnOk result (AreReady arms.now boards.new dataflow.new) }

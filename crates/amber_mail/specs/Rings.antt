@@ -46,8 +46,8 @@ free_note_slots mail = known_free mail.notes
 -- ---- both
 
 -- the two ends of one mail
-abbrev pub AreEnds : Post → RingMail → Type 0
-AreEnds post mail = IsPair post.controls mail.controls × IsPair mail.notes post.notes
+abbrev pub AreMailEnds : Post → RingMail → Type 0
+AreMailEnds post mail = IsPair post.controls mail.controls × IsPair mail.notes post.notes
 
 -- the same end
 abbrev pub SamePost : Post → Post → Type 0
@@ -57,6 +57,6 @@ abbrev pub SameMail : RingMail → RingMail → Type 0
 SameMail old new = SameConsumer old.controls new.controls × SameProducer old.notes new.notes
 
 -- a note was handed on, or no slot for it is known to be free
-abbrev pub HandsOn : RingMail → Note → RingMail → Type 0
-HandsOn old note new =
+abbrev pub HandsNoteOn : RingMail → Note → RingMail → Type 0
+HandsNoteOn old note new =
     (sent_notes new ≡ sent_notes old ++ note ∷ []) ⊎ ((sent_notes new ≡ sent_notes old) × (free_note_slots new ≡ 0))

@@ -5,7 +5,7 @@
 ghost use Rattle.std.specs.Prelude.{◌≡◌, ◌+◌, ◌<◌, ◌≤◌, ◌^◌, true, None, [], ◌∷◌, ◌++◌, IfErr, IfNone, IfOk, IsOk, IsSome, OnErr, OnOk, if◌then◌else◌, length, option_to_list};
 ghost use mathlib.Core.List.{IsPrefix};
 ghost use Rattle.amber_mail.specs.Controls.{is_pause};
-ghost use Rattle.amber_mail.specs.Rings.{AreEnds, HandsOn, SameMail, SamePost, free_note_slots, free_slots, heard_notes, pauses_taken, sent_controls, sent_notes, taken_controls, waiting_controls, waiting_notes};
+ghost use Rattle.amber_mail.specs.Rings.{AreMailEnds, HandsNoteOn, SameMail, SamePost, free_note_slots, free_slots, heard_notes, pauses_taken, sent_controls, sent_notes, taken_controls, waiting_controls, waiting_notes};
 
 use crate::mail::{Control, Mail, Note};
 use rtrb::{Consumer, Producer, PushError, RingBuffer};
@@ -31,7 +31,7 @@ pub struct RingMail {
 
 /// The two ends of a new mail.
 pub fn mail_rings(alloc: Global) -> Result<(Post, RingMail), AllocError>
-    ensures ends { IfOk result (λ ends. AreEnds ends.0 ends.1) }
+    ensures ends { IfOk result (λ ends. AreMailEnds ends.0 ends.1) }
     ensures looks { IfOk result (λ ends. ⟦<RingMail as Mail>⟧.looks ends.1 ≡ 0) }
     ensures pauses { IfOk result (λ ends. ⟦<RingMail as Mail>⟧.pauses ends.1 ≡ 0) }
     ensures plan { IfOk result (λ ends. ⟦<RingMail as Mail>⟧.plan ends.1 ≡ None) }
@@ -160,7 +160,7 @@ impl Mail for RingMail {
         ensures mail { SameMail self.old self.new }
         ensures taken { taken_controls self.new ≡ taken_controls self.old }
         ensures waiting { waiting_controls self.new ≡ waiting_controls self.old }
-        ensures noted { HandsOn self.old note self.new }
+        ensures noted { HandsNoteOn self.old note self.new }
         ensures room { free_note_slots self.old ≤ free_note_slots self.new + 1 }
         ensures succeeds { 0 < free_note_slots self.old
             → sent_notes self.new ≡ sent_notes self.old ++ note ∷ [] }

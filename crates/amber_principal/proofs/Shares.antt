@@ -4,7 +4,7 @@ use Rattle.std.specs.Prelude.{nat_lt}
 use Rattle.std.proofs.lemmas.Bool.{cases_lt, ne_eqb}
 use Rattle.std.proofs.lemmas.List.Sums.{count_by_more_no, count_by_more_yes}
 use Rattle.std.proofs.lemmas.List.{ext_get_or, get_or-set_other, get_or-set_same, length-set}
-use Rattle.amber_principal.specs.Shares.{even_share, is_able, is_starved, unit_if, share_at, sharer_count, shares_from, shares_of}
+use Rattle.amber_principal.specs.Shares.{even_share, is_able, is_in_need, unit_if, share_at, sharer_count, shares_from, shares_of}
 use Rattle.amber_principal.specs.Turns.{next_share}
 use Rattle.amber_principal.specs.declared.dividing.Need.TheVariants as need
 use Rattle.amber_principal.specs.declared.dividing.Turns.{Turns}
@@ -102,7 +102,7 @@ even rest sharers before each left some is_each is_left = rw (is_each, is_left, 
 -- the next share is that of the place
 pub next-is : (rest : ℕ) (needs : List Need) (place : ℕ) (one : Need) (turns : Turns) → 0 < sharer_count needs
     → turns.each ≡ rest / sharer_count needs → turns.left ≡ rest % sharer_count needs
-    → turns.starved ≡ count_by is_starved (take place needs) → turns.able ≡ count_by is_starved needs + count_by is_able (take place needs)
+    → turns.starved ≡ count_by is_in_need (take place needs) → turns.able ≡ count_by is_in_need needs + count_by is_able (take place needs)
     → next_share turns one ≡ share_at rest needs place one
 next-is rest needs place need.Absent turns some each left starved able = refl
 next-is rest needs place need.Finished turns some each left starved able = refl

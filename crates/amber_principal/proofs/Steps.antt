@@ -5,7 +5,7 @@ use Rattle.std.proofs.lemmas.List.Sums.{sum_by-drop_more}
 use Rattle.amber_board.specs.declared.view.Step.{Step}
 use Rattle.amber_board.specs.declared.view.Step.TheVariants.{Grant, Sweep, Watch}
 use Rattle.amber_principal.specs.Rounds.{grants_after, sweeps_after, watches_after}
-use Rattle.amber_principal.specs.Shares.{is_starved}
+use Rattle.amber_principal.specs.Shares.{is_in_need}
 use Rattle.amber_principal.specs.declared.dividing.Need.{Need}
 use Rattle.amber_principal.specs.declared.dividing.Need.TheVariants as need
 
@@ -21,7 +21,7 @@ pub watches_more : (steps : List Step) (n : ℕ) → watches_after steps (n + 1)
 watches_more steps n = let one : n + 1 ≡ suc n = omega arith in rw one (watches_next steps n)
 
 sweeps_next : (needs : List Need) (steps : List Step) (n : ℕ)
-    → sweeps_after needs steps (suc n) ≡ (if is_starved (slice_index_or needs n need.Absent) then sweeps_after needs steps n else Sweep n ∷ sweeps_after needs steps n)
+    → sweeps_after needs steps (suc n) ≡ (if is_in_need (slice_index_or needs n need.Absent) then sweeps_after needs steps n else Sweep n ∷ sweeps_after needs steps n)
 unfolding sweeps_after
 sweeps_next needs steps n = refl
 
@@ -30,7 +30,7 @@ unfolding sweeps_after
 sweeps_none needs steps = refl
 
 pub sweeps_more : (needs : List Need) (steps : List Step) (n : ℕ)
-    → sweeps_after needs steps (n + 1) ≡ (if is_starved (slice_index_or needs n need.Absent) then sweeps_after needs steps n else Sweep n ∷ sweeps_after needs steps n)
+    → sweeps_after needs steps (n + 1) ≡ (if is_in_need (slice_index_or needs n need.Absent) then sweeps_after needs steps n else Sweep n ∷ sweeps_after needs steps n)
 sweeps_more needs steps n = let one : n + 1 ≡ suc n = omega arith in rw one (sweeps_next needs steps n)
 
 grants_next : (shares : List ℕ) (steps : List Step) (n : ℕ)

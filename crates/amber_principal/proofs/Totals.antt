@@ -7,7 +7,7 @@ use Rattle.std.proofs.lemmas.List.{append-nil, length-append}
 use Rattle.std.proofs.lemmas.List.Sums.{sum_by-append, sum_by-cons}
 use Rattle.std.proofs.Math.Nat.{div-add-mod, mod-lt, mul_comm, mul-add}
 use Rattle.std.proofs.Math.Seq.{take-append_seam}
-use Rattle.amber_principal.specs.Shares.{even_share, is_able, is_starved, unit_if, share_at, sharer_count, shares_from, shares_of}
+use Rattle.amber_principal.specs.Shares.{even_share, is_able, is_in_need, unit_if, share_at, sharer_count, shares_from, shares_of}
 use Rattle.amber_principal.specs.declared.dividing.Need.{Need}
 use Rattle.amber_principal.specs.declared.dividing.Need.TheVariants as need
 
@@ -67,13 +67,13 @@ length-push xs x = length-append xs (x ∷ []) ∙ ap (λ n. length xs + n) refl
 
 -- the shares of the later workers, where these came before: each its even part, and what is left over in turn
 record Divided (left each later : ℕ) (all done xs : List Need) : Type 0 where
-  whole : later + least left (count_by is_starved done) + least left (count_by is_starved all + count_by is_able done)
-      ≡ each * sharer_count xs + least left (count_by is_starved all) + least left (sharer_count all)
+  whole : later + least left (count_by is_in_need done) + least left (count_by is_in_need all + count_by is_able done)
+      ≡ each * sharer_count xs + least left (count_by is_in_need all) + least left (sharer_count all)
 
 -- a worker that shares or not: what the shares after it add up to, with it and without
 record Turn (left each share : ℕ) (all done : List Need) (x : Need) : Type 0 where
-  one : share + least left (count_by is_starved done) + least left (count_by is_starved all + count_by is_able done)
-      ≡ each * (unit_if (is_starved x) + unit_if (is_able x)) + least left (count_by is_starved (done ++ x ∷ [])) + least left (count_by is_starved all + count_by is_able (done ++ x ∷ []))
+  one : share + least left (count_by is_in_need done) + least left (count_by is_in_need all + count_by is_able done)
+      ≡ each * (unit_if (is_in_need x) + unit_if (is_able x)) + least left (count_by is_in_need (done ++ x ∷ [])) + least left (count_by is_in_need all + count_by is_able (done ++ x ∷ []))
 
 even-is : (rest sharers before : ℕ) → 0 < sharers → even_share rest sharers before ≡ rest / sharers + unit_if (nat_lt before (rest % sharers))
 even-is rest sharers before some = rw (ne_eqb sharers 0 (λ e. omega (arith, some, e))) refl
@@ -105,34 +105,34 @@ taken all done xs is = ap (take (length done)) is ∙ take-append_seam done xs
 counts-before : (rest : ℕ) (all done xs : List Need) (x : Need) → all ≡ done ++ x ∷ xs → 0 < sharer_count all
     → Turn (rest % sharer_count all) (rest / sharer_count all) (share_at rest all (length done) x) all done x
 counts-before rest all done xs need.Absent is some = record {
-  one = none-more (least (rest % sharer_count all)) (rest / sharer_count all) (count_by is_starved done) (count_by is_able done) (count_by is_starved all)
-      (count_by is_starved (done ++ need.Absent ∷ [])) (count_by is_able (done ++ need.Absent ∷ []))
-      (count-push is_starved done need.Absent) (count-push is_able done need.Absent);
+  one = none-more (least (rest % sharer_count all)) (rest / sharer_count all) (count_by is_in_need done) (count_by is_able done) (count_by is_in_need all)
+      (count_by is_in_need (done ++ need.Absent ∷ [])) (count_by is_able (done ++ need.Absent ∷ []))
+      (count-push is_in_need done need.Absent) (count-push is_able done need.Absent);
 }
 counts-before rest all done xs need.Finished is some = record {
-  one = none-more (least (rest % sharer_count all)) (rest / sharer_count all) (count_by is_starved done) (count_by is_able done) (count_by is_starved all)
-      (count_by is_starved (done ++ need.Finished ∷ [])) (count_by is_able (done ++ need.Finished ∷ []))
-      (count-push is_starved done need.Finished) (count-push is_able done need.Finished);
+  one = none-more (least (rest % sharer_count all)) (rest / sharer_count all) (count_by is_in_need done) (count_by is_able done) (count_by is_in_need all)
+      (count_by is_in_need (done ++ need.Finished ∷ [])) (count_by is_able (done ++ need.Finished ∷ []))
+      (count-push is_in_need done need.Finished) (count-push is_able done need.Finished);
 }
 counts-before rest all done xs need.Starved is some = record {
-  one = starved-more (rest % sharer_count all) (rest / sharer_count all) (count_by is_starved done) (count_by is_able done) (count_by is_starved all)
-      (count_by is_starved (done ++ need.Starved ∷ [])) (count_by is_able (done ++ need.Starved ∷ []))
+  one = starved-more (rest % sharer_count all) (rest / sharer_count all) (count_by is_in_need done) (count_by is_able done) (count_by is_in_need all)
+      (count_by is_in_need (done ++ need.Starved ∷ [])) (count_by is_able (done ++ need.Starved ∷ []))
       (share_at rest all (length done) need.Starved)
-      (even-is rest (sharer_count all) (count_by is_starved (take (length done) all)) some
-      ∙ ap (λ before. rest / sharer_count all + unit_if (nat_lt (count_by is_starved before) (rest % sharer_count all))) (taken all done (need.Starved ∷ xs) is))
-      (count-push is_starved done need.Starved) (count-push is_able done need.Starved);
+      (even-is rest (sharer_count all) (count_by is_in_need (take (length done) all)) some
+      ∙ ap (λ before. rest / sharer_count all + unit_if (nat_lt (count_by is_in_need before) (rest % sharer_count all))) (taken all done (need.Starved ∷ xs) is))
+      (count-push is_in_need done need.Starved) (count-push is_able done need.Starved);
 }
 counts-before rest all done xs need.Able is some = record {
-  one = able-more (rest % sharer_count all) (rest / sharer_count all) (count_by is_starved done) (count_by is_able done) (count_by is_starved all)
-      (count_by is_starved (done ++ need.Able ∷ [])) (count_by is_able (done ++ need.Able ∷ []))
+  one = able-more (rest % sharer_count all) (rest / sharer_count all) (count_by is_in_need done) (count_by is_able done) (count_by is_in_need all)
+      (count_by is_in_need (done ++ need.Able ∷ [])) (count_by is_able (done ++ need.Able ∷ []))
       (share_at rest all (length done) need.Able)
-      (even-is rest (sharer_count all) (count_by is_starved all + count_by is_able (take (length done) all)) some
-      ∙ ap (λ before. rest / sharer_count all + unit_if (nat_lt (count_by is_starved all + count_by is_able before) (rest % sharer_count all))) (taken all done (need.Able ∷ xs) is))
-      (count-push is_starved done need.Able) (count-push is_able done need.Able);
+      (even-is rest (sharer_count all) (count_by is_in_need all + count_by is_able (take (length done) all)) some
+      ∙ ap (λ before. rest / sharer_count all + unit_if (nat_lt (count_by is_in_need all + count_by is_able before) (rest % sharer_count all))) (taken all done (need.Able ∷ xs) is))
+      (count-push is_in_need done need.Able) (count-push is_able done need.Able);
 }
 
-sharers-cons : (x : Need) (xs : List Need) → sharer_count (x ∷ xs) ≡ (unit_if (is_starved x) + unit_if (is_able x)) + sharer_count xs
-sharers-cons x xs = omega (arith, count-cons is_starved x xs, count-cons is_able x xs)
+sharers-cons : (x : Need) (xs : List Need) → sharer_count (x ∷ xs) ≡ (unit_if (is_in_need x) + unit_if (is_able x)) + sharer_count xs
+sharers-cons x xs = omega (arith, count-cons is_in_need x xs, count-cons is_able x xs)
 
 later-shares : (rest : ℕ) (all : List Need) → 0 < sharer_count all → (done xs : List Need) → all ≡ done ++ xs
     → Divided (rest % sharer_count all) (rest / sharer_count all) (sum (shares_from rest all (length done) xs)) all done xs
@@ -150,7 +150,7 @@ later-shares rest all some done (x ∷ xs) is =
     let sums : sum (shares_from rest all (length done) (x ∷ xs)) ≡ share_at rest all (length done) x + sum (shares_from rest all (length done + 1) xs) =
     sum_by-cons (λ n. n) (share_at rest all (length done) x) (shares_from rest all (length done + 1) xs) in
     record {
-      whole = together each (sharer_count xs) (unit_if (is_starved x) + unit_if (is_able x)) (sharer_count (x ∷ xs)) _ _ _ _ _ _ _ _ _ _
+      whole = together each (sharer_count xs) (unit_if (is_in_need x) + unit_if (is_able x)) (sharer_count (x ∷ xs)) _ _ _ _ _ _ _ _ _ _
           (sharers-cons x xs) sums (ap sum (sym place)) turn.one later.whole;
     }
   where
@@ -166,7 +166,7 @@ shares-total rest needs some =
     let whole = (later-shares rest needs some [] needs refl).whole in
     let last : least (rest % sharer_count needs) (sharer_count needs) ≡ rest % sharer_count needs = least-all (rest % sharer_count needs) (sharer_count needs) (mod-lt rest some) in
     let none : least (rest % sharer_count needs) 0 ≡ 0 = least-none (rest % sharer_count needs) in
-    let none_able : count_by is_starved needs + 0 ≡ count_by is_starved needs = omega arith in
+    let none_able : count_by is_in_need needs + 0 ≡ count_by is_in_need needs = omega arith in
     let divided : sharer_count needs * (rest / sharer_count needs) + rest % sharer_count needs ≡ rest = div-add-mod rest (sharer_count needs) in
     let turned : rest / sharer_count needs * sharer_count needs ≡ sharer_count needs * (rest / sharer_count needs) = mul_comm (rest / sharer_count needs) (sharer_count needs) in
     omega (arith, whole, last, none, ap (least (rest % sharer_count needs)) none_able, divided, turned)
@@ -203,16 +203,16 @@ absent-none rest all place (x ∷ xs) absent =
     let later : sum (shares_from rest all (place + 1) xs) ≡ 0 = absent-none rest all (place + 1) xs (λ k d less. absent (suc k) d (omega (arith, less))) in
     sum_by-cons (λ n. n) (share_at rest all place x) (shares_from rest all (place + 1) xs) ∙ omega (arith, share, later)
 
-starved-counted : (xs : List Need) → list_any is_starved xs ≡ true → 0 < count_by is_starved xs
+starved-counted : (xs : List Need) → list_any is_in_need xs ≡ true → 0 < count_by is_in_need xs
 starved-counted [] any = absurd (false≢true any)
-starved-counted (x ∷ xs) any = by (is_starved x) refl (starved-counted xs)
+starved-counted (x ∷ xs) any = by (is_in_need x) refl (starved-counted xs)
   where
-    by : (b : Bool) → is_starved x ≡ b → (list_any is_starved xs ≡ true → 0 < count_by is_starved xs) → 0 < count_by is_starved (x ∷ xs)
-    by true is later = omega (arith, count-cons is_starved x xs, ap unit_if is)
+    by : (b : Bool) → is_in_need x ≡ b → (list_any is_in_need xs ≡ true → 0 < count_by is_in_need xs) → 0 < count_by is_in_need (x ∷ xs)
+    by true is later = omega (arith, count-cons is_in_need x xs, ap unit_if is)
     by false is later =
-        let behind : list_any is_starved xs ≡ true = rw is at any in
-        omega (arith, count-cons is_starved x xs, ap unit_if is, later behind)
+        let behind : list_any is_in_need xs ≡ true = rw is at any in
+        omega (arith, count-cons is_in_need x xs, ap unit_if is, later behind)
 
 -- where anyone is starved somebody shares
-pub starved-shares : (needs : List Need) → list_any is_starved needs ≡ true → 0 < sharer_count needs
+pub starved-shares : (needs : List Need) → list_any is_in_need needs ≡ true → 0 < sharer_count needs
 starved-shares needs any = omega (arith, starved-counted needs any)

@@ -4,7 +4,7 @@ use Rattle.std.specs.List.{list_any}
 use Rattle.amber_board.specs.declared.view.Step.{Step}
 use Rattle.amber_board.specs.declared.view.Step.TheVariants.{Draw, Grant, Sweep, Watch}
 use Rattle.amber_board.specs.declared.view.View.{View}
-use Rattle.amber_principal.specs.Shares.{is_able, is_starved, shares_of}
+use Rattle.amber_principal.specs.Shares.{is_able, is_in_need, shares_of}
 use Rattle.amber_principal.specs.declared.dividing.Need.{Need}
 use Rattle.amber_principal.specs.declared.dividing.Need.TheVariants as need
 use Rattle.amber_principal.specs.declared.rounds.Order.{Order}
@@ -22,7 +22,7 @@ watches_after steps (suc n) = Watch n ∷ watches_after steps n
 unfoldable pub sweeps_after : List Need → List Step → ℕ → List Step
 sweeps_after needs steps zero = steps
 sweeps_after needs steps (suc n) =
-    if is_starved (slice_index_or needs n need.Absent) then sweeps_after needs steps n else Sweep n ∷ sweeps_after needs steps n
+    if is_in_need (slice_index_or needs n need.Absent) then sweeps_after needs steps n else Sweep n ∷ sweeps_after needs steps n
 
 -- after these steps each worker below n was granted its share, in order, where that is not 0
 unfoldable pub grants_after : List ℕ → List Step → ℕ → List Step
@@ -33,7 +33,7 @@ grants_after shares steps (suc n) =
 -- whether units are divided: the target is not reached, and somebody is starved
 abbrev pub divides : Seen → List Need → Bool
 divides seen.Hit needs = false
-divides seen.Open needs = list_any is_starved needs
+divides seen.Open needs = list_any is_in_need needs
 
 -- the steps of a round that found this many units unassigned or unclaimed
 abbrev pub round_steps : ℕ → List Need → Seen → ℕ → List Step → List Step

@@ -3,11 +3,11 @@ use Rattle.std.specs.Prelude.{ℕ, ◌+◌, ◌/◌, ◌%◌, ◌==◌, List, []
 use Rattle.amber_principal.specs.declared.dividing.Need.{Need}
 use Rattle.amber_principal.specs.declared.dividing.Need.TheVariants as need
 
-abbrev pub is_starved : Need → Bool
-is_starved need.Absent = false
-is_starved need.Finished = false
-is_starved need.Starved = true
-is_starved need.Able = false
+abbrev pub is_in_need : Need → Bool
+is_in_need need.Absent = false
+is_in_need need.Finished = false
+is_in_need need.Starved = true
+is_in_need need.Able = false
 
 abbrev pub is_able : Need → Bool
 is_able need.Absent = false
@@ -17,7 +17,7 @@ is_able need.Able = true
 
 -- how many get a share: those that are starved, and those that are able
 abbrev pub sharer_count : List Need → ℕ
-sharer_count needs = count_by is_starved needs + count_by is_able needs
+sharer_count needs = count_by is_in_need needs + count_by is_able needs
 
 -- 1 where it is so
 abbrev pub unit_if : Bool → ℕ
@@ -33,8 +33,8 @@ even_share rest sharers before = if sharers == 0 then 0 else rest / sharers + un
 abbrev pub share_at : ℕ → List Need → ℕ → Need → ℕ
 share_at rest needs place need.Absent = 0
 share_at rest needs place need.Finished = 0
-share_at rest needs place need.Starved = even_share rest (sharer_count needs) (count_by is_starved (take place needs))
-share_at rest needs place need.Able = even_share rest (sharer_count needs) (count_by is_starved needs + count_by is_able (take place needs))
+share_at rest needs place need.Starved = even_share rest (sharer_count needs) (count_by is_in_need (take place needs))
+share_at rest needs place need.Able = even_share rest (sharer_count needs) (count_by is_in_need needs + count_by is_able (take place needs))
 
 -- the shares of the workers at the places from this one on
 unfoldable pub shares_from : ℕ → List Need → ℕ → List Need → List ℕ

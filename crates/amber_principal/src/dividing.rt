@@ -1,7 +1,7 @@
 //! How units are divided among those who need some.
 
 ghost use Rattle.std.specs.Prelude.{◌≡◌, ◌<◌, ◌^◌, ◌+◌, count_by};
-ghost use Rattle.amber_principal.specs.Shares.{is_able, is_starved, shares_of};
+ghost use Rattle.amber_principal.specs.Shares.{is_able, is_in_need, shares_of};
 ghost use Rattle.amber_principal.specs.Turns.{after_share, next_share};
 
 use crate::PLACES;
@@ -22,7 +22,7 @@ pub enum Need {
 impl Need {
     /// Whether the worker has work and no unit to do it with.
     pub fn is_starved(self) -> bool
-        ensures { result ≡ is_starved self }
+        ensures { result ≡ is_in_need self }
     {
         matches!(self, Need::Starved)
     }
@@ -37,7 +37,7 @@ impl Need {
 
 // How many are starved.
 fn starved_count(needs: &[Need; PLACES]) -> u64
-    ensures { result ≡ count_by is_starved needs.now }
+    ensures { result ≡ count_by is_in_need needs.now }
 {
     needs.iter().filter(|need| need.is_starved()).count() as u64
 }
@@ -85,7 +85,7 @@ impl Turns {
 
 // The shares, where these many are starved and able, and somebody is.
 fn shares_among(rest: u64, needs: &[Need; PLACES], starved: u64, able: u64) -> [u64; PLACES]
-    requires starved { starved ≡ count_by is_starved needs.now }
+    requires starved { starved ≡ count_by is_in_need needs.now }
     requires able { able ≡ count_by is_able needs.now }
     requires some { 0 < starved + able }
     ensures { result ≡ shares_of rest needs.now }

@@ -7,7 +7,7 @@ ghost use Rattle.amber_board.specs.Ledger.{IsExact};
 ghost use Rattle.amber_board.specs.Seats.{IsChiefOf, chief_view, board_workers};
 ghost use Rattle.amber_board.specs.declared.view.Step.TheVariants.{Draw, Grant, Sweep};
 ghost use Rattle.amber_principal.specs.Rounds.{IsRound, grants_after, sweeps_after, watches_after};
-ghost use Rattle.amber_principal.specs.Shares.{is_able, is_starved};
+ghost use Rattle.amber_principal.specs.Shares.{is_able, is_in_need};
 
 use crate::PLACES;
 use crate::dividing::{Need, divide};
@@ -68,7 +68,7 @@ fn sweep_other(seat: &mut ChiefSeat, board: &Board, needs: &[Need; PLACES], work
     ensures own { IsChiefOf board.now seat.new }
     ensures seen { (chief_view seat.new).seen ≡ (chief_view seat.old).seen }
     ensures steps { (chief_view seat.new).done
-        ≡ (if is_starved (slice_index_or needs.now worker Need.Absent) then
+        ≡ (if is_in_need (slice_index_or needs.now worker Need.Absent) then
         (chief_view seat.old).done
         else Sweep worker ∷ (chief_view seat.old).done) }
 {
@@ -141,7 +141,7 @@ fn able(needs: &[Need; PLACES]) -> [bool; PLACES]
 
 // Whether anyone is starved.
 fn is_anyone_starved(needs: &[Need; PLACES]) -> bool
-    ensures { result ≡ list_any is_starved needs.now }
+    ensures { result ≡ list_any is_in_need needs.now }
 {
     needs.iter().any(|need| need.is_starved())
 }

@@ -15,7 +15,7 @@ use Rattle.amber_course.specs.declared.failure.Failure.{Failure}
 use Rattle.amber_course.specs.declared.failure.Failure.TheVariants as failure
 use Rattle.amber_course.proofs.Following.{told-map}
 use Rattle.amber_run.specs.AnsweredByChange.{AnsweredBy, AnswersAreOne, BreaksBy, BreaksOffBy, Change, EndedBy, FulfilsBy, IsCause, IsUntouchedBy, StopsAreOne, StopsBy, StopsLongBy, SucceedsBy, ThenPuts, change_between, shown_in, showing}
-use Rattle.amber_run.specs.Answering.{BreaksOff, Fulfils, IsUntouched}
+use Rattle.amber_run.specs.Answering.{IsBrokenOff, Fulfils, IsUntouched}
 use Rattle.amber_run.specs.Outcome.{Answered, Breaks, Ended, Stops, StopsLong, Succeeds}
 use Rattle.amber_run.specs.RunTask.{run_task_of}
 use Rattle.amber_run.proofs.RunsShown.{done-from, done-to, keeps-then, leaves-from, leaves-to, puts-only, then-map}
@@ -53,12 +53,12 @@ fulfils-from (job.Plain inputs) before after h = h
 fulfils-from (job.Run run) before after h = done-from (run_task_of before run) after h
 
 breaks_off-to : (done : Job) (s : Failure) (line : List ℕ) (before after : World) → (s ≡ failure.OutFault → line ≡ []) → BreaksOffBy done s line (change_between before after)
-    → ThenPuts (BreaksOff done s before) line after
+    → ThenPuts (IsBrokenOff done s before) line after
 breaks_off-to (job.Plain inputs) failure.OutFault line before after none h = (after, h, subst (λ l. Appends after.got after.got l) (sym (none refl)) (Appends-nil after.got), refl)
 breaks_off-to (job.Plain inputs) other line before after none h = absurd h
 breaks_off-to (job.Run run) s line before after none h = leaves-to (run_task_of before run) s line after h
 
-breaks_off-from : (done : Job) (s : Failure) (line : List ℕ) (before world : World) (got : Option (List ℕ)) → (s ≡ failure.OutFault → line ≡ []) → BreaksOff done s before world
+breaks_off-from : (done : Job) (s : Failure) (line : List ℕ) (before world : World) (got : Option (List ℕ)) → (s ≡ failure.OutFault → line ≡ []) → IsBrokenOff done s before world
     → Appends world.got got line → BreaksOffBy done s line (change_to before world got)
 breaks_off-from (job.Plain inputs) failure.OutFault line before world got none h p =
     let part = h.1.0 in
@@ -78,10 +78,10 @@ succeeds-from words files before after h = (h.0, h.1, fulfils-from h.0 before af
 -- over files that are known or not
 broken-to : (told : Option Named) (words : List (List ℕ)) (s : Failure) (line : List ℕ) (before after : World) → (s ≡ failure.OutFault → line ≡ [])
     → Told told (λ files. (done : Job) × (course_of words files ≡ Ok done) × BreaksOffBy done s line (change_between before after))
-    → ThenPuts (λ world. Told told (λ files. (done : Job) × (course_of words files ≡ Ok done) × BreaksOff done s before world)) line after
+    → ThenPuts (λ world. Told told (λ files. (done : Job) × (course_of words files ≡ Ok done) × IsBrokenOff done s before world)) line after
 broken-to None words s line before after none h = (record after { got = None }, tt, tt, puts-only after None)
 broken-to (Some files) words s line before after none h =
-    then-map (BreaksOff h.0 s before) (λ world. (done : Job) × (course_of words files ≡ Ok done) × BreaksOff done s before world) line after (λ world only b. (h.0, h.1, b))
+    then-map (IsBrokenOff h.0 s before) (λ world. (done : Job) × (course_of words files ≡ Ok done) × IsBrokenOff done s before world) line after (λ world only b. (h.0, h.1, b))
     (breaks_off-to h.0 s line before after none h.2)
 
 breaks-to : (words : List (List ℕ)) (s : Failure) (line : List ℕ) (before after : World) → (s ≡ failure.OutFault → line ≡ []) → BreaksBy words s line (change_between before after)
@@ -91,7 +91,7 @@ breaks-to words s line before after none h = broken-to before.files words s line
 breaks-from : (words : List (List ℕ)) (s : Failure) (line : List ℕ) (before world : World) (got : Option (List ℕ)) → (s ≡ failure.OutFault → line ≡ []) → Breaks words s before world
     → Appends world.got got line → BreaksBy words s line (change_to before world got)
 breaks-from words s line before world got none h p =
-    told-map before.files (λ files. (done : Job) × (course_of words files ≡ Ok done) × BreaksOff done s before world)
+    told-map before.files (λ files. (done : Job) × (course_of words files ≡ Ok done) × IsBrokenOff done s before world)
     (λ files. (done : Job) × (course_of words files ≡ Ok done) × BreaksOffBy done s line (change_to before world got))
     (λ files b. (b.0, b.1, breaks_off-from b.0 s line before world got none b.2 p)) h
 

@@ -12,7 +12,7 @@ use Rattle.amber_log.specs.declared.command.Command.{Command}
 use Rattle.amber_log.specs.declared.log.Item.TheVariants as item
 use Rattle.amber_meaning.specs.Legal.{alters, query_over}
 use Rattle.amber_meaning.specs.Total.{step_total}
-use Rattle.amber_run.specs.Answering.{BreaksOff}
+use Rattle.amber_run.specs.Answering.{IsBrokenOff}
 use Rattle.amber_course.specs.Course.{course_of}
 use Rattle.amber_run.specs.Outcome.{Answers, Breaks, IsJobStatus, IsRunStatus, IsSinkStatus, MeetsLimit, MissesWords, Stops, StopsLong, Succeeds}
 use Rattle.amber_run.specs.UnderWay.{Leaves}
@@ -52,7 +52,7 @@ run-status t failure.NoMemory now result h e = rw e tt
 run-status t other now result h e = absurd h
 
 -- the status of a job that was broken off
-open-broken : (j : Job) (s : Failure) (before mid : World) (result : Status) → BreaksOff j s before mid
+open-broken : (j : Job) (s : Failure) (before mid : World) (result : Status) → IsBrokenOff j s before mid
     → result ≡ status_of s → IsJobStatus j result
 open-broken (job.Plain inputs) failure.OutFault before mid result h e = rw e tt
 open-broken (job.Plain inputs) other before mid result h e = absurd h
@@ -81,7 +81,7 @@ answers-ok words before mid =
 answers-broken : (words : List (List ℕ)) (s : Failure) (before mid : World) (result : Status) → Breaks words s before mid
     → result ≡ status_of s → Told before.files (λ files. Answers (course_of words files) result before.loads mid.loads)
 answers-broken words s before mid result h is =
-    told-map before.files (λ files. (one : Job) × (course_of words files ≡ Ok one) × BreaksOff one s before mid) (λ files. Answers (course_of words files) result before.loads mid.loads)
+    told-map before.files (λ files. (one : Job) × (course_of words files ≡ Ok one) × IsBrokenOff one s before mid) (λ files. Answers (course_of words files) result before.loads mid.loads)
     (λ files p. answers-open (course_of words files) p.0 result before.loads mid.loads p.1 (open-broken p.0 s before mid result p.2 is)) h
 
 answers-course : (words : List (List ℕ)) (s : Failure) (told : Option Named) (a b : ℕ) (result : Status) → Told told (λ files. course_of words files ≡ Err s) → result ≡ status_of s
@@ -147,7 +147,7 @@ with-end script h =
     ap (λ items. list_all (λ one. not (alters one)) items) (map-append item.Do script end_alone)
     ∙ list_all-append (λ one. not (alters one)) (map item.Do script) (map item.Do end_alone) ∙ and_from (list_all (λ one. not (alters one)) (map item.Do script)) true h refl
 
-over-of : (r : Result Job Failure) (j : Job) (before mid : World) → r ≡ Ok j → BreaksOff j failure.Long before mid → IsOver r
+over-of : (r : Result Job Failure) (j : Job) (before mid : World) → r ≡ Ok j → IsBrokenOff j failure.Long before mid → IsOver r
 over-of r (job.Plain inputs) before mid e h = absurd h
 over-of r (job.Run run) before mid e h = rw e (λ nothing. h.1 (with-end run.commands nothing))
 
@@ -156,7 +156,7 @@ late-long words before mid puts result (inl few) is =
     told-map before.files (λ files. course_of words files ≡ Err failure.Long) (λ files. IsOk (course_of words files) → ¬ (Rose before.loads mid.loads) → IsLate (course_of words files) result before mid puts)
     (λ files p ok quiet. absurd (not-both (course_of words files) failure.Long ok p)) few.0
 late-long words before mid puts result (inr breaks) is =
-    told-map before.files (λ files. (one : Job) × (course_of words files ≡ Ok one) × BreaksOff one failure.Long before mid)
+    told-map before.files (λ files. (one : Job) × (course_of words files ≡ Ok one) × IsBrokenOff one failure.Long before mid)
     (λ files. IsOk (course_of words files) → ¬ (Rose before.loads mid.loads) → IsLate (course_of words files) result before mid puts)
     (λ files p ok quiet. inr (inr (inr (is, over-of (course_of words files) p.0 before mid p.1 p.2)))) breaks
 

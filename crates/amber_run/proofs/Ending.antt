@@ -14,7 +14,7 @@ use Rattle.amber_course.specs.declared.words.Words.TheVariants as form
 use Rattle.amber_course.specs.declared.failure.Failure.{Failure}
 use Rattle.amber_course.specs.declared.failure.Failure.TheVariants as failure
 use Rattle.amber_course.proofs.Following.{names-map, stopped-map, then-err, then-ok, told-all, told-map}
-use Rattle.amber_run.specs.Answering.{BreaksOff, IsUntouched, Works}
+use Rattle.amber_run.specs.Answering.{IsBrokenOff, IsUntouched, Works}
 use Rattle.amber_run.specs.Outcome.{AsksNoRun, Breaks, MissesWords, Runs, Stops, Succeeds, Worded, WroteNothing}
 use Rattle.amber_run.specs.Writing.{Counted, FailedAs}
 use Rattle.amber_run.proofs.Working.{keeps-same}
@@ -67,9 +67,9 @@ run-failure other words read before after e h only = (
 )
 
 broken : (s : Failure) (words : List (List ℕ)) (read : Words) (job : Job) (before after : World) → call_words_of words ≡ Some read
-    → Told before.files (λ files. job_of read files ≡ Ok job) → require_limit job ≡ Ok job → BreaksOff job s before after → Breaks words s before after
+    → Told before.files (λ files. job_of read files ≡ Ok job) → require_limit job ≡ Ok job → IsBrokenOff job s before after → Breaks words s before after
 broken s words read job before after e h l breaks =
-    told-map before.files (λ files. job_of read files ≡ Ok job) (λ files. (one : Job) × (course_of words files ≡ Ok one) × BreaksOff one s before after)
+    told-map before.files (λ files. job_of read files ≡ Ok job) (λ files. (one : Job) × (course_of words files ≡ Ok one) × IsBrokenOff one s before after)
     (λ files j. (job, course-job words read files job (Ok job) e j l, breaks)) h
 
 -- the job was done, or not

@@ -8,7 +8,7 @@ use Rattle.amber_course.specs.Loaded.{Loaded}
 use Rattle.amber_log.specs.LogText.{log_text}
 use Rattle.amber_log.proofs.Torn.{reads-whole}
 use Rattle.amber_meaning.specs.Plain.{row_total}
-use Rattle.amber_run.specs.Answering.{BreaksOff, Fulfils}
+use Rattle.amber_run.specs.Answering.{IsBrokenOff, Fulfils}
 use Rattle.amber_course.specs.Course.{course_of, require_limit, most_rows}
 use Rattle.amber_run.specs.Outcome.{Answers, AsksFor, Breaks, IsLongWhere, IsPrintStatus, RunsLong, Stops, StopsLong, Succeeds, TellsLong}
 use Rattle.amber_run.specs.UnderWay.{IsDone, IsLeft}
@@ -78,13 +78,13 @@ done-short before now run h =
       ((λ e. cc), (λ long. absurd (let two : false ≡ true = sym h.way.short ∙ long in cc))),
     )
 
-broke-long : (one : Job) (before mid : World) (run : RunJob) (result : Status) → one ≡ job.Run run → BreaksOff one failure.Long before mid → result ≡ status.Long
+broke-long : (one : Job) (before mid : World) (run : RunJob) (result : Status) → one ≡ job.Run run → IsBrokenOff one failure.Long before mid → result ≡ status.Long
     → RunsLong result before.files mid.files run.log
-broke-long one before mid run result e h is = left-long before mid run result (subst (λ j. BreaksOff j failure.Long before mid) e h).0 is
+broke-long one before mid run result e h is = left-long before mid run result (subst (λ j. IsBrokenOff j failure.Long before mid) e h).0 is
 
-broke-short : (one : Job) (before mid : World) (run : RunJob) (result : Status) → one ≡ job.Run run → BreaksOff one failure.OutFault before mid → result ≡ status.OutFault
+broke-short : (one : Job) (before mid : World) (run : RunJob) (result : Status) → one ≡ job.Run run → IsBrokenOff one failure.OutFault before mid → result ≡ status.OutFault
     → RunsLong result before.files mid.files run.log
-broke-short one before mid run result e h is = left-short before mid run result (subst (λ j. BreaksOff j failure.OutFault before mid) e h) is
+broke-short one before mid run result e h is = left-short before mid run result (subst (λ j. IsBrokenOff j failure.OutFault before mid) e h) is
 
 did-short : (one : Job) (before mid : World) (run : RunJob) → one ≡ job.Run run → Fulfils one before mid → RunsLong status.Ok before.files mid.files run.log
 did-short one before mid run e h = done-short before mid run (subst (λ j. Fulfils j before mid) e h)
@@ -112,13 +112,13 @@ run-cause s words before mid puts result =
 
 run-out : (words : List (List ℕ)) (before mid : World) (puts : ℕ) (result : Status) → Breaks words failure.OutFault before mid → result ≡ status.OutFault → AreRunsLong words result before mid puts
 run-out words before mid puts result h is =
-    told-map before.files (λ files. (one : Job) × (course_of words files ≡ Ok one) × BreaksOff one failure.OutFault before mid) (λ files. IsRunLong (course_of words files) result before mid puts)
+    told-map before.files (λ files. (one : Job) × (course_of words files ≡ Ok one) × IsBrokenOff one failure.OutFault before mid) (λ files. IsRunLong (course_of words files) result before mid puts)
     (λ files p run e read kept. broke-short p.0 before mid run result (one-job (course_of words files) p.0 (job.Run run) p.1 e) p.2 is) h
 
 run-long : (words : List (List ℕ)) (before mid : World) (puts : ℕ) (result : Status) → StopsLong words before mid → result ≡ status.Long → AreRunsLong words result before mid puts
 run-long words before mid puts result (inl few) is = run-cause failure.Long words before mid puts result few.0
 run-long words before mid puts result (inr breaks) is =
-    told-map before.files (λ files. (one : Job) × (course_of words files ≡ Ok one) × BreaksOff one failure.Long before mid) (λ files. IsRunLong (course_of words files) result before mid puts)
+    told-map before.files (λ files. (one : Job) × (course_of words files ≡ Ok one) × IsBrokenOff one failure.Long before mid) (λ files. IsRunLong (course_of words files) result before mid puts)
     (λ files p run e read kept. broke-long p.0 before mid run result (one-job (course_of words files) p.0 (job.Run run) p.1 e) p.2 is) breaks
 
 run-stopped : (s : Failure) (words : List (List ℕ)) (before mid : World) (puts : ℕ) (result : Status)

@@ -35,19 +35,19 @@ Fulfils (job.Plain inputs) before after =
 Fulfils (job.Run run) before after = IsDone (run_task_of before run) after
 
 -- the job was broken off: for `plain` the sink failed, which got a front part of that text alone
-abbrev pub BreaksOff : Job → Failure → World → World → Type 0
-BreaksOff (job.Plain inputs) failure.OutFault before after =
+abbrev pub IsBrokenOff : Job → Failure → World → World → Type 0
+IsBrokenOff (job.Plain inputs) failure.OutFault before after =
     (after.files ≡ before.files) × Begins before.got after.got (answer_text inputs.flow (answer_of inputs.flow inputs.files))
-BreaksOff (job.Plain inputs) other before after = ⊥
-BreaksOff (job.Run run) s before after = Leaves (run_task_of before run) s after
+IsBrokenOff (job.Plain inputs) other before after = ⊥
+IsBrokenOff (job.Run run) s before after = Leaves (run_task_of before run) s after
 
 -- a job was broken off, or nothing was done: memory ran out, or the query gives too many rows
 abbrev pub Fails : Failure → Job → World → World → Type 0
-Fails failure.LogFault done before after = (require_limit done ≡ Ok done) × BreaksOff done failure.LogFault before after
-Fails failure.OutFault done before after = (require_limit done ≡ Ok done) × BreaksOff done failure.OutFault before after
+Fails failure.LogFault done before after = (require_limit done ≡ Ok done) × IsBrokenOff done failure.LogFault before after
+Fails failure.OutFault done before after = (require_limit done ≡ Ok done) × IsBrokenOff done failure.OutFault before after
 Fails failure.Long done before after =
-    ((require_limit done ≡ Err failure.Long) × IsUntouched before after) ⊎ ((require_limit done ≡ Ok done) × BreaksOff done failure.Long before after)
-Fails failure.NoMemory done before after = IsUntouched before after ⊎ ((require_limit done ≡ Ok done) × BreaksOff done failure.NoMemory before after)
+    ((require_limit done ≡ Err failure.Long) × IsUntouched before after) ⊎ ((require_limit done ≡ Ok done) × IsBrokenOff done failure.Long before after)
+Fails failure.NoMemory done before after = IsUntouched before after ⊎ ((require_limit done ≡ Ok done) × IsBrokenOff done failure.NoMemory before after)
 Fails other done before after = ⊥
 
 -- a job was done, or it failed

@@ -10,7 +10,7 @@ use Rattle.amber_log.specs.declared.log.Log.{Log}
 use Rattle.amber_meaning.specs.Legal.{query_over}
 use Rattle.amber_meaning.specs.Plain.{row_total}
 use Rattle.amber_meaning.specs.Total.{step_total}
-use Rattle.amber_run.specs.Answering.{BreaksOff, Fulfils, IsUntouched}
+use Rattle.amber_run.specs.Answering.{IsBrokenOff, Fulfils, IsUntouched}
 use Rattle.amber_course.specs.Course.{IsReached, course_of, job_of, most_rows}
 use Rattle.amber_run.specs.RunTask.{AlterNothing, ends_long, most_steps}
 use Rattle.amber_course.specs.Words.{call_words_of}
@@ -103,7 +103,7 @@ Succeeds words files before after = (job : Job) × (course_of words files ≡ Ok
 
 -- the course has a job, and it was broken off
 abbrev pub Breaks : List (List ℕ) → Failure → World → World → Type 0
-Breaks words s before after = Told before.files (λ files. (job : Job) × (course_of words files ≡ Ok job) × BreaksOff job s before after)
+Breaks words s before after = Told before.files (λ files. (job : Job) × (course_of words files ≡ Ok job) × IsBrokenOff job s before after)
 
 -- the query gives too many rows, and nothing was done; or a run was too long
 abbrev pub StopsLong : List (List ℕ) → World → World → Type 0

@@ -71,13 +71,13 @@ script_constant kind.Int word = ok_or (option_map (λ n. value.Int n) (read_int_
 script_constant kind.Text word = Ok (value.Text word)
 
 -- the number of the column with this name, from 1
-abbrev pub column_named : List Column → List ℕ → Result ℕ ScriptWhy
-column_named columns name = ok_or (option_map (λ place. place + 1) (position (λ column. bytes_eq column.name name) columns)) why.Column
+abbrev pub number_of_column : List Column → List ℕ → Result ℕ ScriptWhy
+number_of_column columns name = ok_or (option_map (λ place. place + 1) (position (λ column. bytes_eq column.name name) columns)) why.Column
 
 -- the condition on the column of this name, where it is compared so with the constant that a word is
 abbrev pub condition_on : List Column → List ℕ → Cmp → List ℕ → Result Cond ScriptWhy
 condition_on columns name comparison word = do
-  column ← column_named columns name
+  column ← number_of_column columns name
   kind ← ok_or (column_kind_at columns column) why.Column
   constant ← script_constant kind word
   Ok (record { column = column; op = comparison; constant = constant })

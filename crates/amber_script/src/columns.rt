@@ -6,7 +6,7 @@ ghost use Rattle.amber_rows.specs.Columns.{column_kind_at, kind_of};
 ghost use Rattle.amber_rows.specs.Suits.{same_kind};
 ghost use Rattle.amber_log.specs.Fits.{is_cell_of};
 ghost use Rattle.amber_log.specs.Operands.{comparison_of};
-ghost use Rattle.amber_script.specs.Commands.{column_named, condition_on, script_constant};
+ghost use Rattle.amber_script.specs.Commands.{number_of_column, condition_on, script_constant};
 
 use crate::error::ScriptWhy;
 use amber_rows::{Cmp, ColKind, Column, Cond, Text, Value, read_int};
@@ -37,7 +37,7 @@ fn place_of(columns: &[Column], name: &str) -> Option<usize>
 
 fn find_column(columns: &[Column], name: &str) -> Result<u32, ScriptWhy>
     requires { length columns.now ≤ 64 }
-    ensures { result ≡ column_named columns.now name.now }
+    ensures { result ≡ number_of_column columns.now name.now }
 {
     match place_of(columns, name) {
         None => Err(ScriptWhy::Column),

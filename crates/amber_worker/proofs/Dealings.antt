@@ -19,7 +19,7 @@ use Rattle.amber_worker.specs.Counting.{Claims, CountsOne, DealsUnits, GivesBack
 use Rattle.amber_worker.specs.Links.{EmitsFirst}
 use Rattle.amber_worker.specs.Steps.{EmitsRow, Finishes, TakesBatch, TakesRow, held_at, with_go}
 use Rattle.amber_worker.specs.Turning.{FinishesDealing, IsNextTurn, MakesTurn, TakesDealing, TurnsDealing}
-use Rattle.amber_worker.specs.WorkerState.{IsFree, StandsStill, WorkerState, has_ready, is_armed, is_starved, must_hold, next_turn}
+use Rattle.amber_worker.specs.WorkerState.{IsUnrestrained, StandsStill, WorkerState, has_ready, is_armed, is_starved, must_hold, next_turn}
 use Rattle.amber_worker.specs.declared.counting.Dealing.{Dealing}
 use Rattle.amber_worker.specs.declared.counting.Dealing.TheVariants as dealing
 use Rattle.amber_worker.specs.declared.turn.Turn.{Turn}
@@ -33,7 +33,7 @@ next-plain w done is = record { found = w.ins; looked = pairwise-refl IsLooked l
 
 module _ (how : Dealing) (w : WorkerState) (now : SeatSide) (own : w.restraint.hand ≡ hand_in w.seat) (deals : DealsUnits how (seat_side w) now) where
   -- a row holds it
-  pub holds-dealing : IsFree w → has_some w.pending ≡ true → must_hold w ≡ true → is_starved (dealt now w) ≡ false → TurnsDealing how w (held_at (dealt now w)) turn.Held
+  pub holds-dealing : IsUnrestrained w → has_some w.pending ≡ true → must_hold w ≡ true → is_starved (dealt now w) ≡ false → TurnsDealing how w (held_at (dealt now w)) turn.Held
   holds-dealing free some must fed = record {
     between = dealt now w;
     deals = deals-at how w now own deals;
@@ -44,7 +44,7 @@ module _ (how : Dealing) (w : WorkerState) (now : SeatSide) (own : w.restraint.h
   }
 
   -- it has no unit for the row that is pending
-  pub starves-dealing : IsFree w → has_some w.pending ≡ true → is_starved (dealt now w) ≡ true → TurnsDealing how w (dealt now w) turn.Starved
+  pub starves-dealing : IsUnrestrained w → has_some w.pending ≡ true → is_starved (dealt now w) ≡ true → TurnsDealing how w (dealt now w) turn.Starved
   starves-dealing free some starved = record {
     between = dealt now w;
     deals = deals-at how w now own deals;
@@ -52,7 +52,7 @@ module _ (how : Dealing) (w : WorkerState) (now : SeatSide) (own : w.restraint.h
   }
 
   -- nor for the row that is left
-  pub starves-left : IsFree w → has_some w.pending ≡ false → has_some w.rest ≡ true → is_starved (dealt now w) ≡ true → TurnsDealing how w (dealt now w) turn.Starved
+  pub starves-left : IsUnrestrained w → has_some w.pending ≡ false → has_some w.rest ≡ true → is_starved (dealt now w) ≡ true → TurnsDealing how w (dealt now w) turn.Starved
   starves-left free none some starved = record {
     between = dealt now w;
     deals = deals-at how w now own deals;
@@ -60,7 +60,7 @@ module _ (how : Dealing) (w : WorkerState) (now : SeatSide) (own : w.restraint.h
   }
 
   -- a row was emitted
-  pub emits-dealing : (new : WorkerState) → IsFree w → has_some w.pending ≡ true → must_hold w ≡ false → is_starved (dealt now w) ≡ false → EmitsRow (dealt now w) new
+  pub emits-dealing : (new : WorkerState) → IsUnrestrained w → has_some w.pending ≡ true → must_hold w ≡ false → is_starved (dealt now w) ≡ false → EmitsRow (dealt now w) new
       → TurnsDealing how w new turn.Moved
   emits-dealing new free some must fed emits = record {
     between = dealt now w;
@@ -117,7 +117,7 @@ free-dealt : (how : Dealing) (old new : WorkerState) → DealsAt how old new →
     → ((w : WorkerState) → w ≡ record old { seat = w.seat; restraint = record old.restraint { hand = w.restraint.hand }; journal = w.journal } → P w) → P new
 free-dealt how old new deals P so = so new (is-dealt how old new deals).only
 
-module _ (how : Dealing) (old seen : WorkerState) (looked : IsLookedAt old seen) (free : IsFree old) (none : has_some old.pending ≡ false) (used : has_some old.rest ≡ false) where
+module _ (how : Dealing) (old seen : WorkerState) (looked : IsLookedAt old seen) (free : IsUnrestrained old) (none : has_some old.pending ≡ false) (used : has_some old.rest ≡ false) where
   -- which turn comes after both
   next-then : (between : WorkerState) (done : Turn) (ready ended : Bool) → DealsAt how seen between → has_ready seen.ins ≡ ready → have_all_ended seen.ins ≡ ended
       → done ≡ (if ready then turn.Moved else if ended then turn.Moved else turn.Idle) → done ≡ next_turn between
@@ -276,14 +276,14 @@ counts-unit (Some seat) fed = by (work_view seat).hand fed
 -- ---- a row that was taken
 
 -- nothing is dealt with, and it has no unit for the row that is left
-pub starves-plain : (w : WorkerState) → IsFree w → has_some w.pending ≡ false → has_some w.rest ≡ true → is_starved w ≡ true → TurnsDealing dealing.Nothing w w turn.Starved
+pub starves-plain : (w : WorkerState) → IsUnrestrained w → has_some w.pending ≡ false → has_some w.rest ≡ true → is_starved w ≡ true → TurnsDealing dealing.Nothing w w turn.Starved
 starves-plain w free none some starved = record {
   between = w;
   deals = refl;
   makes = record { next = next-plain w turn.Starved (rw (free.unfinished, free.running, free.loose, none, some, starved) refl); turned = refl };
 }
 
-pub takes-plain : (w new : WorkerState) → IsFree w → has_some w.pending ≡ false → has_some w.rest ≡ true → is_starved w ≡ false → TakesRow w new → TurnsDealing dealing.Nothing w new turn.Moved
+pub takes-plain : (w new : WorkerState) → IsUnrestrained w → has_some w.pending ≡ false → has_some w.rest ≡ true → is_starved w ≡ false → TakesRow w new → TurnsDealing dealing.Nothing w new turn.Moved
 takes-plain w new free none some fed takes = record {
   between = w;
   deals = refl;
@@ -291,7 +291,7 @@ takes-plain w new free none some fed takes = record {
 }
 
 -- it gave its units back, and has none for the row that is left
-pub starves-given : (w new : WorkerState) → IsFree w → has_some w.pending ≡ false → has_some w.rest ≡ true → is_armed w ≡ true → DealsAt dealing.Returns w new
+pub starves-given : (w new : WorkerState) → IsUnrestrained w → has_some w.pending ≡ false → has_some w.rest ≡ true → is_armed w ≡ true → DealsAt dealing.Returns w new
     → TurnsDealing dealing.Returns w new turn.Starved
 starves-given w new free none some armed gives =
     let dealt_so = is-dealt dealing.Returns w new gives in

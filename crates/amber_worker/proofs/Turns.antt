@@ -14,7 +14,7 @@ use Rattle.amber_link.proofs.Sides.{get_or-any, looked-same, map-set-same, pairw
 use Rattle.amber_worker.specs.AtPosition.{HasSameEnds, IsLookedAt, KeepsUnder}
 use Rattle.amber_worker.specs.Links.{IsHandedOn, HaveSentNothing, number_to}
 use Rattle.amber_worker.specs.Fields.{AreShort}
-use Rattle.amber_worker.specs.WorkerState.{IsFree, WorkerState, has_ready, is_armed, is_starved, must_hold, next_turn, steps_made}
+use Rattle.amber_worker.specs.WorkerState.{IsUnrestrained, WorkerState, has_ready, is_armed, is_starved, must_hold, next_turn, steps_made}
 use Rattle.amber_worker.specs.Steps.{EmitsRow, TakesBatch, TakesRow, batch_taken, held_at, row_emitted}
 use Rattle.amber_worker.specs.Turning.{FinishesAt, HasTurned, MakesStep, MakesTurn}
 use Rattle.amber_worker.specs.declared.turn.Turn.{Turn}
@@ -27,7 +27,7 @@ use Rattle.amber_worker.proofs.Stills.{Keeps-held_at}
 use Rattle.amber_worker.proofs.Takes.{Keeps-batch_taken, Keeps-looked}
 use Rattle.amber_worker.proofs.TurnCases.{holds-by, moves-free, moves-on, moves-takes, turn_by}
 
-working : (w : WorkerState) → AreShort w.journal → IsFree w → IsWorking w
+working : (w : WorkerState) → AreShort w.journal → IsUnrestrained w → IsWorking w
 working w few free = record { unfinished = free.unfinished; running = free.running; loose = free.loose; few = few }
 
 -- whatever has come
@@ -88,7 +88,7 @@ same-after old between looked P h = subst P (sym looked.only) h
 abbrev pub IsNext : WorkerState → List Upstream → Turn → Type 0
 IsNext old found done = done ≡ next_turn (record old { ins = found })
 
-next-free : (old : WorkerState) (found : List Upstream) → IsNext old found turn.Moved → IsFree old
+next-free : (old : WorkerState) (found : List Upstream) → IsNext old found turn.Moved → IsUnrestrained old
 next-free old found is =
     let parts = moves-free old.finished old.restraint.paused old.restraint.held (has_some old.pending) (is_starved old) (must_hold old) (has_some old.rest) (has_ready found) (have_all_ended found) is in
     record { unfinished = parts.0; running = parts.1; loose = parts.2 }

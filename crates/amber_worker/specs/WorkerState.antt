@@ -127,7 +127,7 @@ next_turn w =
     else turn.Idle
 
 -- neither finished nor paused nor held
-pub record IsFree (w : WorkerState) : Type 0 where
+pub record IsUnrestrained (w : WorkerState) : Type 0 where
   pub unfinished : w.finished ≡ false
   pub running : w.restraint.paused ≡ false
   pub loose : w.restraint.held ≡ false

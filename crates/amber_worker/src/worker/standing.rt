@@ -5,7 +5,7 @@ ghost use Rattle.std.specs.Prelude.{false, true, IfOk, OnErr, OnOk, ◌≡◌};
 ghost use Rattle.std.specs.Option.{option_copied};
 ghost use Rattle.amber_worker.specs.Acting.{DealsAt};
 ghost use Rattle.amber_worker.specs.Counting.{IsBoardOf};
-ghost use Rattle.amber_worker.specs.WorkerState.{IsFree, StandsStill, WorkerState, stands_still};
+ghost use Rattle.amber_worker.specs.WorkerState.{IsUnrestrained, StandsStill, WorkerState, stands_still};
 ghost use Rattle.amber_worker.specs.Turning.{TurnsDealing};
 
 use super::Worker;
@@ -19,7 +19,7 @@ impl Worker {
     #[inline(always)]
     pub(super) fn stands_still(&self) -> bool
         ensures still { result ≡ stands_still self.now }
-        ensures free { result ≡ false → IsFree self.now }
+        ensures free { result ≡ false → IsUnrestrained self.now }
     {
         self.finished | self.flags.paused | self.flags.held
     }

@@ -8,7 +8,7 @@ ghost use Rattle.amber_link.specs.Sides.{have_all_ended};
 ghost use Rattle.amber_link.specs.declared.upstreams.Upstream.{Upstream as OneUpstream};
 ghost use Rattle.amber_worker.specs.Acting.{MayDeal};
 ghost use Rattle.amber_worker.specs.Counting.{IsBoardOf};
-ghost use Rattle.amber_worker.specs.WorkerState.{IsFree, WorkerState, has_ready, must_hold, steps_made};
+ghost use Rattle.amber_worker.specs.WorkerState.{IsUnrestrained, WorkerState, has_ready, must_hold, steps_made};
 ghost use Rattle.amber_worker.specs.Steps.{TakesRow};
 ghost use Rattle.amber_worker.specs.AtPosition.{IsLookedAt};
 ghost use Rattle.amber_worker.specs.Links.{MayTakeAt};
@@ -99,7 +99,7 @@ impl Worker {
     fn hold(&mut self, board: Option<&Board>, how: Dealing) -> Result<Turn, AllocError>
         requires own { IsBoardOf (option_copied board) self.old.seat }
         requires may { MayDeal how self.old }
-        requires free { IsFree self.old }
+        requires free { IsUnrestrained self.old }
         requires some { has_some self.old.pending ≡ true }
         requires must { must_hold self.old ≡ true }
         ensures own { IsBoardOf (option_copied board.entry) self.new.seat }
@@ -121,7 +121,7 @@ impl Worker {
         requires few { steps_made self.old < 2 ^ 40 }
         requires own { IsBoardOf (option_copied board) self.old.seat }
         requires may { MayDeal how self.old }
-        requires free { IsFree self.old }
+        requires free { IsUnrestrained self.old }
         requires some { has_some self.old.pending ≡ true }
         requires must { must_hold self.old ≡ false }
         ensures own { IsBoardOf (option_copied board.entry) self.new.seat }
@@ -226,7 +226,7 @@ impl Worker {
     fn finish(&mut self, board: Option<&Board>, how: Dealing) -> Result<(), AllocError>
         requires few { steps_made self.old < 2 ^ 40 }
         requires own { IsBoardOf (option_copied board) self.old.seat }
-        requires free { IsFree self.old }
+        requires free { IsUnrestrained self.old }
         requires none { has_some self.old.pending ≡ false }
         requires used { has_some self.old.rest ≡ false }
         requires ended { have_all_ended self.old.ins ≡ true }
@@ -247,7 +247,7 @@ impl Worker {
         requires few { steps_made self.old < 2 ^ 40 }
         requires own { IsBoardOf (option_copied board) self.old.seat }
         requires may { MayDeal how self.old }
-        requires free { IsFree self.old }
+        requires free { IsUnrestrained self.old }
         requires none { has_some self.old.pending ≡ false }
         requires used { has_some self.old.rest ≡ false }
         ensures own { IsBoardOf (option_copied board.entry) self.new.seat }
@@ -273,7 +273,7 @@ impl Worker {
         requires few { steps_made self.old < 2 ^ 40 }
         requires own { IsBoardOf (option_copied board) self.old.seat }
         requires may { MayDeal Dealing.Claims self.old }
-        requires free { IsFree self.old }
+        requires free { IsUnrestrained self.old }
         requires none { has_some self.old.pending ≡ false }
         requires some { has_some self.old.rest ≡ true }
         ensures own { IsBoardOf (option_copied board.entry) self.new.seat }
@@ -313,7 +313,7 @@ impl Worker {
         requires few { steps_made self.old < 2 ^ 40 }
         requires own { IsBoardOf (option_copied board) self.old.seat }
         requires may { MayDeal how self.old }
-        requires free { IsFree self.old }
+        requires free { IsUnrestrained self.old }
         requires none { has_some self.old.pending ≡ false }
         requires some { has_some self.old.rest ≡ true }
         ensures own { IsBoardOf (option_copied board.entry) self.new.seat }

@@ -4,14 +4,14 @@ use Rattle.amber_rows.specs.Topology.{first_worker_of, op_of}
 use Rattle.amber_rows.specs.declared.flow.Operator.{Operator}
 use Rattle.amber_meaning.specs.declared.view.Stop.TheVariants as stop
 use Rattle.amber_meaning.proofs.Crews.{op-within, own-worker, worker-within}
-use Rattle.amber_dataflow.specs.Dataflow.{held_row}
+use Rattle.amber_dataflow.specs.Dataflow.{row_held_at}
 use Rattle.amber_home.proofs.Stopped.{stop-of-none, stop-of-row}
 use Rattle.amber_home.proofs.stops.add_worker.Goals as goal
 
 pub returns-in_default : goal.returns-in_default
 returns-in_default c =
     let items = c.args.stops.now.items in
-    let none : held_row c.args.dataflow.now c.args.worker ≡ None = sym c.held_row.ensures ∙ ap (option_map (λ row. row.now)) c.in_default.is in
+    let none : row_held_at c.args.dataflow.now c.args.worker ≡ None = sym c.held_row.ensures ∙ ap (option_map (λ row. row.now)) c.in_default.is in
     sym (append-nil items) ∙ ap (λ stops. items ++ stops) (sym (stop-of-none c.args.dataflow.now c.args.worker none))
 
 pub first_worker-requires-clause-some : goal.first_worker-requires-clause-some
@@ -32,7 +32,7 @@ returns c =
     let worker = c.args.worker in
     let items = c.args.stops.now.items in
     let op = c.op_of-op.result in
-    let row : held_row d worker ≡ Some c.in-Some.row.now = sym c.held_row.ensures ∙ ap (option_map (λ row. row.now)) c.in-Some.is in
+    let row : row_held_at d worker ≡ Some c.in-Some.row.now = sym c.held_row.ensures ∙ ap (option_map (λ row. row.now)) c.in-Some.is in
     let own : op ≡ op_of d.flow worker = c.op_of-op.ensures ∙ ap (λ (f : List Operator). op_of f worker) c.flow.ensures in
     let first : c.first_worker.result ≡ first_worker_of d.flow (op_of d.flow worker) =
     c.first_worker.ensures.first ∙ ap (λ (f : List Operator). first_worker_of f op) c.flow-2.ensures ∙ ap (first_worker_of d.flow) own in

@@ -1,6 +1,6 @@
 -- One worker more has its share.
 use Rattle.std.proofs.Common.{◌≡◌, ℕ, ◌+◌, ◌/◌, ◌%◌, ◌<◌, ◌≤◌, length, get_or, count_by, take, refl, sym, ap, ◌∙◌, arith, add-zero}
-use Rattle.amber_principal.specs.Shares.{is_able, is_starved, unit_if, sharer_count, shares_of}
+use Rattle.amber_principal.specs.Shares.{is_able, is_in_need, unit_if, sharer_count, shares_of}
 use Rattle.amber_principal.specs.declared.dividing.Need.TheVariants as need
 use Rattle.amber_principal.specs.declared.dividing.Turns.{Turns}
 use Rattle.amber_principal.proofs.Shares.{agrees-all, agrees-set, agrees-start, counts-next, next-is, share-of, shares-length}
@@ -12,7 +12,7 @@ loop-place-init c = (
   refl,
   refl,
   refl,
-  c.requires.starved ∙ sym (add-zero (count_by is_starved c.args.needs.now)),
+  c.requires.starved ∙ sym (add-zero (count_by is_in_need c.args.needs.now)),
 )
 
 pub loop-place-preserved : goal.loop-place-preserved
@@ -33,10 +33,10 @@ loop-place-preserved c =
       agrees-set (shares_of rest needs) c.loop-place.shares place c.next_share.result in_full share invariant.0,
       ap (λ (t : Turns). t.each) c.next_share.ensures.turns ∙ invariant.1,
       ap (λ (t : Turns). t.left) c.next_share.ensures.turns ∙ invariant.2,
-      ap (λ (t : Turns). t.starved) c.next_share.ensures.turns ∙ ap (λ n. n + unit_if (is_starved one)) invariant.3
-          ∙ sym (counts-next is_starved needs place one need.Absent less refl),
+      ap (λ (t : Turns). t.starved) c.next_share.ensures.turns ∙ ap (λ n. n + unit_if (is_in_need one)) invariant.3
+          ∙ sym (counts-next is_in_need needs place one need.Absent less refl),
       ap (λ (t : Turns). t.able) c.next_share.ensures.turns ∙ ap (λ n. n + unit_if (is_able one)) invariant.4
-          ∙ able_next (count_by is_starved needs) (count_by is_able (take place needs)) (unit_if (is_able one)) (count_by is_able (take (place + 1) needs))
+          ∙ able_next (count_by is_in_need needs) (count_by is_able (take place needs)) (unit_if (is_able one)) (count_by is_able (take (place + 1) needs))
           (counts-next is_able needs place one need.Absent less refl),
     )
   where

@@ -3,7 +3,7 @@ use Rattle.std.proofs.Common.{◌≡◌, ◌<◌, ap, subst, sym, ◌∙◌, set
 use Rattle.amber_rows.specs.Topology.{crew_of}
 use Rattle.amber_worker.specs.Changes.{held_dropped, row_held}
 use Rattle.amber_dataflow.specs.AtWork.{worker_state_at}
-use Rattle.amber_dataflow.specs.Dataflow.{AreAllThere, AreHeldByRows, DataflowState, HaveDoneNothing, IsDataflow, held_row}
+use Rattle.amber_dataflow.specs.Dataflow.{AreAllThere, AreHeldByRows, DataflowState, HaveDoneNothing, IsDataflow, row_held_at}
 use Rattle.amber_dataflow.proofs.Dropped.{kept-dropped}
 use Rattle.amber_dataflow.proofs.Split.{read-at}
 use Rattle.amber_dataflow.proofs.dataflow.Dataflow.drop_held.Goals as goal
@@ -22,11 +22,11 @@ invariant_of-self c =
     c.args.worker (subst (λ flow. c.args.worker < crew_of flow) stand.3.flow inside) c.self.invariant)
 
 pub returns-clause-row : goal.returns-clause-row
-unfolding held_row
+unfolding row_held_at
 returns-clause-row c =
     let i = c.self.inside in
     let d : DataflowState = record { flow = i.flow; workers = i.workers.items } in
     let there : AreAllThere d = subst AreAllThere (sym c.self.view_is) c.requires.workers in
     let inside : c.args.worker < crew_of i.flow = subst (λ (e : DataflowState). c.args.worker < crew_of e.flow) (sym c.self.view_is) c.requires.there in
     c.drop_held.ensures.row ∙ ap row_held (c.index_mut.ensures.value ∙ read-at i.workers.items c.args.worker c.index_mut.result.now (rw there inside))
-    ∙ ap (λ (e : DataflowState). held_row e c.args.worker) c.self.view_is
+    ∙ ap (λ (e : DataflowState). row_held_at e c.args.worker) c.self.view_is

@@ -2,7 +2,7 @@
 use Rattle.std.proofs.Common.{◌≡◌, ℕ, ap, subst, sym, ◌∙◌, length, map, take, drop, ◌++◌, false}
 use Rattle.std.proofs.lemmas.List.{length-map}
 use Rattle.amber_dataflow.specs.AtWork.{KeepsPosition, worker_state_at}
-use Rattle.amber_dataflow.specs.Dataflow.{AreArmed, DataflowState, IsDataflow, StandAgain, is_held, worker_resumed}
+use Rattle.amber_dataflow.specs.Dataflow.{AreInArmedLeg, DataflowState, IsDataflow, StandAgain, is_held, worker_resumed}
 use Rattle.amber_dataflow.proofs.Kept.{loose-lent, none-left, written-back}
 use Rattle.amber_dataflow.proofs.Resumed.{kept-resumed, stand-resumed}
 use Rattle.amber_dataflow.proofs.dataflow.Dataflow.resume.Goals as goal
@@ -22,7 +22,7 @@ invariant_of-self c =
     let keeps : (worker : ℕ) → KeepsPosition (worker_state_at crew worker) (worker_state_at (map worker_resumed crew) worker) =
     λ worker. subst (λ old. KeepsPosition (worker_state_at old worker) (worker_state_at (map worker_resumed crew) worker)) c.as_mut_slice.ensures.value
     (subst (λ new. KeepsPosition (worker_state_at c.as_mut_slice.result.now worker) (worker_state_at new worker)) handed (done.keeps worker)) in
-    subst (λ workers. IsDataflow (record { flow = i.flow; workers = workers })) (sym back) (kept-resumed (record { flow = i.flow; workers = crew }) c.self.invariant (subst AreArmed (sym c.self.view_is) c.requires.armed) keeps)
+    subst (λ workers. IsDataflow (record { flow = i.flow; workers = workers })) (sym back) (kept-resumed (record { flow = i.flow; workers = crew }) c.self.invariant (subst AreInArmedLeg (sym c.self.view_is) c.requires.armed) keeps)
 
 pub returns-in-Ok-clause-stand : goal.returns-in-Ok-clause-stand
 returns-in-Ok-clause-stand c =

@@ -7,7 +7,7 @@ use Rattle.amber_dataflow.specs.Dataflow.{leg_parts}
 use Rattle.amber_home.specs.Asked.{Asked}
 use Rattle.amber_home.specs.HomeState.{HomeState, counts_in, runs_to_end}
 use Rattle.amber_home.specs.Kept.{IsHome}
-use Rattle.amber_home.specs.Leg.{counts_asked, is_counted}
+use Rattle.amber_home.specs.Leg.{counts_asked, is_count_asked}
 use Rattle.amber_home.specs.declared.phase.Counts.TheVariants.{Armed}
 use Rattle.amber_home.specs.declared.phase.Phase.TheVariants as phase
 use Rattle.amber_home.proofs.Armings.{asked-counted, leg-boarded, parts-armed, stands-as, stands-leg}
@@ -45,7 +45,7 @@ arm-requires-clause-stand c =
     let leg = leg-unarmed (seen i) (kept i) i.phase c.self.invariant (opens i c.self.invariant c.args.self.now c.self.view_is c.requires.within)
     (ap (λ (h : HomeState). counts_in h.phase) c.self.view_is ∙ c.requires.unarmed) in
     subst (λ counts. StandInForce (has_target counts) i.dataflow) (sym (c.as_slice.ensures.value ∙ c.in_ok-counts.ensures))
-    (stands-as (is_counted i.arms) (has_target (counts_asked i.arms)) i.dataflow (λ op. sym (asked-counted i.arms op)) (stands-leg (seen i) i.dataflow i.arms (runs_to_end i.phase) leg.leg))
+    (stands-as (is_count_asked i.arms) (has_target (counts_asked i.arms)) i.dataflow (λ op. sym (asked-counted i.arms op)) (stands-leg (seen i) i.dataflow i.arms (runs_to_end i.phase) leg.leg))
 
 pub invariant_of-self-2 : goal.invariant_of-self-2
 invariant_of-self-2 c =

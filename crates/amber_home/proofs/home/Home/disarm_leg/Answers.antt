@@ -5,7 +5,7 @@ use Rattle.amber_dataflow.specs.AtWork.{turned_by}
 use Rattle.amber_dataflow.specs.Dataflow.{leg_parts}
 use Rattle.amber_home.specs.HomeState.{DisarmsLeg, HomeState, counts_in, runs_to_end}
 use Rattle.amber_home.specs.Kept.{IsHome}
-use Rattle.amber_home.specs.Leg.{is_counted}
+use Rattle.amber_home.specs.Leg.{is_count_asked}
 use Rattle.amber_home.specs.declared.phase.Counts.TheVariants.{Armed, Disarmed}
 use Rattle.amber_home.specs.declared.phase.Phase.TheVariants as phase
 use Rattle.amber_home.proofs.Armings.{disarmed-leg, disarms-home, stands-as, stands-leg}
@@ -30,7 +30,7 @@ disarm-requires-clause-stand c =
     let i = c.self.inside in
     let leg = leg-armed (seen i) (kept i) i.phase c.self.invariant (opens i c.self.invariant c.args.self.now c.self.view_is c.requires.within)
     (ap (λ (h : HomeState). counts_in h.phase) c.self.view_is ∙ c.requires.armed) in
-    stands-as (is_counted i.arms) (has_board i.boards) i.dataflow (λ op. sym (boards-counted i.arms i.boards leg.stand.targets op))
+    stands-as (is_count_asked i.arms) (has_board i.boards) i.dataflow (λ op. sym (boards-counted i.arms i.boards leg.stand.targets op))
     (stands-leg (seen i) i.dataflow i.arms (runs_to_end i.phase) leg.leg)
 
 pub invariant_of-self : goal.invariant_of-self

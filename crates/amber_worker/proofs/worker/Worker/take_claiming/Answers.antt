@@ -6,7 +6,7 @@ use Rattle.amber_worker.specs.Counting.{DealsUnits, SeatSide, hand_in}
 use Rattle.amber_worker.specs.Fields.{arrivals_in}
 use Rattle.amber_worker.specs.Steps.{TakesRow, is_group}
 use Rattle.amber_worker.specs.Turning.{TurnsDealing}
-use Rattle.amber_worker.specs.WorkerState.{IsFree, WorkerState, is_starved}
+use Rattle.amber_worker.specs.WorkerState.{IsUnrestrained, WorkerState, is_starved}
 use Rattle.amber_worker.specs.declared.counting.Dealing.{Dealing}
 use Rattle.amber_worker.specs.declared.counting.Dealing.TheVariants as dealing
 use Rattle.amber_worker.specs.declared.turn.Turn.TheVariants as turn
@@ -18,7 +18,7 @@ use Rattle.amber_worker.proofs.worker.Worker.take_claiming.Goals as goal
 
 -- a row was taken
 takes-left : (how : Dealing) (w : WorkerState) (now : SeatSide) → w.restraint.hand ≡ hand_in w.seat → DealsUnits how (seat_side w) now
-    → (new : WorkerState) → IsFree w → has_some w.pending ≡ false → has_some w.rest ≡ true → is_starved (dealt now w) ≡ false → TakesRow (dealt now w) new
+    → (new : WorkerState) → IsUnrestrained w → has_some w.pending ≡ false → has_some w.rest ≡ true → is_starved (dealt now w) ≡ false → TakesRow (dealt now w) new
     → TurnsDealing how w new turn.Moved
 takes-left how w now own deals new free none some fed takes = record {
   between = dealt now w;
