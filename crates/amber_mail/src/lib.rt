@@ -4,8 +4,9 @@
 //! A worker looks once before each turn, at something that is a `Mail`. A look is counted, and so
 //! is each that was answered by a pause: of a worker that makes at most a step for each look the
 //! counts say how far it may have gone. A mail may tell its plan, the answers of all looks in
-//! order; then each answer is known. What a worker notes is a hint: no clause rests on its truth,
-//! and it is dropped where there is no room.
+//! order; then each answer is known. A mail says whether its looks may be answered by a claim or a
+//! return (`may_deal`): where they may not no turn deals with units, and is compiled without. What a
+//! worker notes is a hint: no clause rests on its truth, and it is dropped where there is no room.
 //!
 //! | A mail | Its looks answer | Its plan |
 //! |---|---|---|
