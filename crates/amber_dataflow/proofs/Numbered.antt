@@ -8,7 +8,7 @@ use Rattle.amber_rows.specs.declared.flow.Operator.{Operator}
 use Rattle.amber_meaning.specs.Stops.{op_numbers}
 use Rattle.amber_meaning.proofs.Lists.{nth-next}
 
-length-numbers : (n : ℕ) → length (numbers_below n) ≡ n
+pub length-numbers : (n : ℕ) → length (numbers_below n) ≡ n
 unfolding numbers_below
 length-numbers zero = refl
 length-numbers (suc n) = length-append (numbers_below n) (n ∷ []) ∙ ap (λ m. m + 1) (length-numbers n) ∙ add-one n

@@ -4,7 +4,7 @@ ghost use Rattle.std.specs.Prelude.{◌≡◌, ◌^◌, ◌<◌, ◌≤◌, ◌�
 ghost use Rattle.amber_log.specs.Fits.{fits_of};
 ghost use Rattle.amber_log.specs.Grammar.{ends_over};
 ghost use Rattle.amber_meaning.specs.Legal.{IsLegal};
-ghost use Rattle.amber_meaning.specs.State.{arms_at, have_finished, position_at, steps_in};
+ghost use Rattle.amber_meaning.specs.State.{arms_at, emitted_by, have_finished, position_at, steps_in};
 ghost use Rattle.amber_meaning.specs.Views.{answer_in, inspected_of};
 ghost use Rattle.amber_home.specs.HomeState.{IsEarly, NoneIsHeld, NoneIsPaused, dropped_by, has_crew, is_open, query_of, runs_to_end};
 ghost use Rattle.amber_home.specs.HomeState.{state_of, stops_of_home};
@@ -85,6 +85,16 @@ impl Home {
         ensures few { result ≤ self.now.most }
     {
         self.dataflow.steps()
+    }
+
+    /// How many rows the workers of an operator have emitted.
+    pub fn rows_emitted(&self, op: u32) -> u64
+        requires there { has_crew self.now.phase ≡ true }
+        requires some { 0 < op }
+        requires within { op ≤ length self.now.flow }
+        ensures { result ≡ emitted_by self.now.flow (state_of self.now) op }
+    {
+        self.dataflow.rows_emitted(op)
     }
 
     /// Whether all workers have finished.
