@@ -1,5 +1,5 @@
-//! A coordinator beside the workers of a round: what they have done when it has told them something. On several threads a gate
-//! holds a worker until it has. Rests on `home_calls`.
+//! A coordinator beside the workers of a round: what they have done when it has told them something. On three threads it has its
+//! turns on the last of them, and a gate holds a worker of the others until it has told something. Rests on `home_calls`.
 
 ghost use Rattle.std.specs.Prelude.{◌<◌, ◌≤◌};
 
@@ -137,7 +137,7 @@ fn a_pause_is_told_within_a_slice(rt: HostRuntime) -> Result<(), Fail> {
             passes: 1,
         },
     ];
-    let told = paused_text(&rt, alloc, 2, &holds)?;
+    let told = paused_text(&rt, alloc, 3, &holds)?;
     for rows in 1..10 {
         if told == format!(in alloc; "stop pause big 1 {rows}\n")? {
             return Ok(());
@@ -168,8 +168,8 @@ fn scan_has_finished<R: Threads + Sync>(
     requires some { 0 < threads }
     requires few { threads ≤ 64 }
 {
-    let file = file_of(alloc, 3000)?;
-    let mut home = home_of(rt, alloc, file.as_str(), 10, 100_000)?;
+    let file = file_of(alloc, 100_000)?;
+    let mut home = home_of(rt, alloc, file.as_str(), 10, 1_000_000)?;
     let _watched = watch_first(alloc, &mut home)?;
     let _went = run_leg_on(rt, alloc, &mut home, false, threads, &HoldGate::new(holds))?;
     let scan = shown_at(alloc, &home, 1)?;
@@ -194,7 +194,7 @@ fn a_worker_is_paused_where_another_is_held(rt: HostRuntime) -> Result<(), Fail>
         },
     ];
     let alone = scan_has_finished(&rt, rt.alloc(), 1, &[])?;
-    let beside = scan_has_finished(&rt, rt.alloc(), 2, &holds)?;
+    let beside = scan_has_finished(&rt, rt.alloc(), 3, &holds)?;
     expect_text(
         format!(in rt.alloc(); "alone {alone} beside {beside}")?,
         "alone false beside false",
@@ -247,7 +247,7 @@ fn units_are_divided_in_the_first_round(rt: HostRuntime) -> Result<(), Fail> {
         },
     ];
     expect_text(
-        counted_text(&rt, rt.alloc(), 2, &holds)?,
+        counted_text(&rt, rt.alloc(), 3, &holds)?,
         "stop count all 80\nalone 0",
     )
 }

@@ -2,7 +2,6 @@
 use Rattle.std.proofs.Common.{◌≡◌, ◌⊎◌, refl, sym, ap, subst, ◌∙◌, ℕ, ◌+◌, ◌*◌, ◌<◌, ◌≤◌, List, [], length, slice_index_or, Bool, true, Option, None, Some, unwrap_or, inl, inr, arith}
 use Rattle.std.specs.List.{sum}
 use Rattle.std.specs.Option.{IfNone}
-use Rattle.std.proofs.Math.Nat.{mul-le-mul_right}
 use Rattle.std.proofs.lemmas.Bool.{false≢true}
 use Rattle.amber_rows.specs.Lists.{nth}
 use Rattle.amber_rows.specs.Topology.{crew_of, workers_of}
@@ -14,7 +13,8 @@ use Rattle.amber_home.specs.declared.phase.Counts.TheVariants.{Armed, Disarmed}
 use Rattle.amber_home.proofs.Homes.{open-is}
 use Rattle.amber_home.specs.declared.phase.Phase.{Phase}
 use Rattle.amber_home.specs.declared.phase.Phase.TheVariants as phase
-use Rattle.amber_leg.specs.Leg.{AreOnTime, DrivesLeg, GoesFurther, AddsUp, IsOneHeld, IsUndriven, MakesRound, MovesOn, most_late, turned_at}
+use Rattle.amber_leg.specs.Leg.{AreOnTime, DrivesLeg, GoesFurther, AddsUp, IsOneHeld, IsUndriven, MakesRound, MovesOn, StaysInTime, most_late, turned_at}
+use Rattle.amber_leg.proofs.Near.{stays-in-time}
 
 -- what is said where there is none
 pub if-none : {A P : Type 0} (found : Option A) → ((x : A) → found ≡ Some x → ⊥) → IfNone found P → P
@@ -61,7 +61,7 @@ further-then a b c one two = record { only = only-then a b c one.only two.only; 
 
 -- after one that began where no pause stood
 pub further-round : (old fed new : HomeState) (turns : ℕ) → is_open old.phase ≡ true → IsEarly old → fed ≡ record old { parts = fed.parts } → IsAsFar old fed → MakesRound turns fed new
-    → ((op n : ℕ) → (arms_at (state_of fed) op).pause ≡ Some n → turns ≤ most_late) → GoesFurther old new
+    → StaysInTime turns fed → GoesFurther old new
 further-round old fed new turns within early only far round late =
     let fed-only = only-alone old fed only in
     let new-only = only-turned fed new round.only in
@@ -75,10 +75,8 @@ further-round old fed new turns within early only far round late =
           let before = ap (λ arms. arms.pause) (sym (arms-same old fed within fed-only op)) ∙ armed in
           let few = early op n before in
           let same = far.rows op in
-          let most = mul-le-mul_right {m = turns} {n = most_late} (length (workers_of fed.flow op)) (late op n armed) in
-          let rows = round.rows op in
           subst (λ f. emitted_by f (state_of new) op ≤ n + most_late * length (workers_of f op)) (sym now)
-          (omega (arith, few, same, most, rows));
+          (stays-in-time fed turns op n (emitted_by fed.flow (state_of new) op) late armed (omega (arith, few, same)) (round.rows op));
     }
 
 -- ---- a step

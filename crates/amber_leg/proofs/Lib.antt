@@ -6,6 +6,7 @@ pub mod Emitting
 pub mod Further
 pub mod Gathered
 pub mod Led
+pub mod Near
 pub mod ReadyOut
 pub mod Rounded
 pub mod Sliced

@@ -1,13 +1,17 @@
 -- Turns of a worker in slices.
-use Rattle.std.proofs.Common.{◌≡◌, ◌+◌, ◌-◌, ◌^◌, ◌<◌, ◌≤◌, ℕ, List, count_by, length, inl, inr, arith}
+use Rattle.std.proofs.Common.{◌≡◌, ◌+◌, ◌-◌, ◌^◌, ◌<◌, ◌≤◌, ◌++◌, ℕ, List, [], Option, None, Some, option_to_list, count_by, length, inl, inr, refl, arith}
 use Rattle.std.proofs.lemmas.Bool.{cases_lt}
 use Rattle.std.proofs.lemmas.List.Sums.{count_by-le-length}
 use Rattle.amber_mail.specs.Controls.{is_pause}
+use Rattle.amber_mail.specs.Rings.{taken_controls, waiting_controls}
+use Rattle.amber_mail.specs.declared.mail.Control.{Control}
+use Rattle.amber_mail.specs.declared.rings.RingMail.{RingMail}
+use Rattle.std.specs.Option.{IfNone}
 use Rattle.amber_worker.specs.Driving.{CountsTurns, Driven}
 use Rattle.amber_worker.specs.Turning.{MakesTurns}
 use Rattle.amber_worker.specs.WorkerState.{WorkerState}
 use Rattle.amber_worker.proofs.ManyTurns.{makes-armed, makes-more, makes-same, makes-then}
-use Rattle.amber_leg.specs.Slices.{HasCounted, Heeds}
+use Rattle.amber_leg.specs.Slices.{HasCounted, Heeds, HeedsMail}
 
 -- a drive makes no more turns than it was asked for
 pub drives-most : (turns : List Driven) (most looks looked pauses paused : ℕ) (old new : WorkerState) → looked ≡ looks + length turns
@@ -66,19 +70,30 @@ pub counted-both : (m n most : ℕ) (a b c : WorkerState) → m + n ≤ most →
 counted-both m n most a b c within some one two = counted-more (m + n) most a c within some (counted-then m n a b c one two)
 
 -- nothing was told
-pub heeds-none : (w : WorkerState) → Heeds w w
-heeds-none w = (makes-same w, record { turned = λ fits. omega arith; steps = omega arith })
+pub heeds-none : (w : WorkerState) → Heeds None w w
+heeds-none w = record { acts = refl; makes = makes-same w; counts = record { turned = λ fits. omega arith; steps = omega arith } }
+
+-- a worker that is told nothing does nothing
+pub heeds-same : (told : Option Control) (w : WorkerState) → ((control : Control) → told ≡ Some control → ⊥) → Heeds told w w
+heeds-same None w not = heeds-none w
+heeds-same (Some control) w not = absurd (not control refl)
+
+-- nor one whose mail says nothing
+pub heeds-mail : (told : Option Control) (before after : RingMail) (w : WorkerState) → ((control : Control) → told ≡ Some control → ⊥)
+    → taken_controls after ≡ taken_controls before ++ option_to_list told → IfNone told (waiting_controls after ≡ []) → HeedsMail before after w w
+heeds-mail None before after w not taken none = record { told = None; taken = taken; none = λ is. none; heeds = heeds-none w }
+heeds-mail (Some control) before after w not taken none = absurd (not control refl)
 
 -- what was told is done behind the turns
-pub counted-heeds : (most : ℕ) (a b c : WorkerState) → a.turned + most < 2 ^ 64 → HasCounted most a b → Heeds b c → HasCounted most a c
-counted-heeds most a b c fits one heeds =
+pub counted-heeds : (most : ℕ) (told : Option Control) (a b c : WorkerState) → a.turned + most < 2 ^ 64 → HasCounted most a b → Heeds told b c → HasCounted most a c
+counted-heeds most told a b c fits one heeds =
     let within = one.within in
     let more = one.more in
     let steps = one.steps in
-    let is = heeds.1.turned (omega (arith, within, fits)) in
-    let after = heeds.1.steps in
+    let is = heeds.counts.turned (omega (arith, within, fits)) in
+    let after = heeds.counts.steps in
     record {
-      makes = makes-more (most + 0) most a c (omega arith) (makes-then most 0 a b c (makes-armed most a b one.makes) one.makes heeds.0);
+      makes = makes-more (most + 0) most a c (omega arith) (makes-then most 0 a b c (makes-armed most a b one.makes) one.makes heeds.makes);
       some = λ some. let first = one.some some in omega (arith, is, first);
       more = omega (arith, is, more);
       within = omega (arith, is, within);

@@ -72,6 +72,19 @@ pub record MakesRound (turns : ℕ) (old new : HomeState) : Type 0 where
   pub within : (worker : ℕ) → turned_at new worker ≤ turned_at old worker + turns
   pub driven : steps_in (state_of new) + sum old.turned ≤ steps_in (state_of old) + sum new.turned
 
+-- an operator's pause, if it has one, is farther than its workers come in a round
+abbrev pub IsFarAt : HomeState → ℕ → Type 0
+IsFarAt e op = (n : ℕ) → (arms_at (state_of e) op).pause ≡ Some n
+    → emitted_by e.flow (state_of e) op + most_turned * length (workers_of e.flow op) ≤ n
+
+-- so is that of each operator
+abbrev pub AreFar : HomeState → Type 0
+AreFar e = (op : ℕ) → 0 < op → op ≤ length e.flow → IsFarAt e op
+
+-- workers may make so many turns each in a round: few, or all pauses are far
+abbrev pub StaysInTime : ℕ → HomeState → Type 0
+StaysInTime turns e = (turns ≤ most_late) ⊎ ((turns ≤ most_turned) × AreFar e)
+
 -- workers may be driven for so many turns more, none of which is not counted
 abbrev pub MayCount : ℕ → HomeState → Type 0
 MayCount turns e = (worker : ℕ) → turned_at e worker + turns < 2 ^ 64

@@ -6,11 +6,11 @@ ghost use Rattle.std.specs.Prelude.{false, ◌≡◌, OnOk};
 ghost use Rattle.amber_leg.specs.Coordinating.{AreLedOn};
 ghost use Rattle.amber_leg.specs.Driving.{HasDrivenAll, MayDrive, turns_of};
 
-use crate::budget::Budget;
+use crate::budget::{Budget, in_slices};
 use crate::coordinator::attend;
 use crate::desk::Desk;
 use crate::driver::{Driver, drive_slices};
-use crate::signals::Signals;
+use crate::shared::Shared;
 use crate::slices::{Pace, heed_place};
 use amber_board::{Board, ChiefSeat};
 use amber_mail::Gate;
@@ -46,28 +46,25 @@ fn heed_all(
 // told to pause, or none of them has moved and none was told anything.
 fn alternate_passes<G: Gate>(
     driver: &mut Driver,
-    boards: &[Option<&Board>],
-    gate: &G,
+    shared: &Shared<'_, G>,
     budget: Budget,
-    signals: &Signals,
     desk: &mut Desk,
     chiefs: &mut [Option<ChiefSeat>],
-    all: &[Option<&Board>],
 ) -> Result<(), AllocError>
-    requires may { MayDrive (turns_of budget) boards.now driver.old }
-    requires led { AreLedOn all.now chiefs.old }
-    ensures driven { OnOk result (HasDrivenAll (turns_of budget)
-        boards.now driver.old driver.new) }
-    ensures led { AreLedOn all.now chiefs.new }
+    requires may { MayDrive (turns_of budget) shared.now.boards.now driver.old }
+    requires led { AreLedOn shared.now.all.now chiefs.old }
+    ensures driven { OnOk result (HasDrivenAll (turns_of budget) shared.now.boards.now
+        driver.old driver.new) }
+    ensures led { AreLedOn shared.now.all.now chiefs.new }
 {
     'passes: for _made in 0..budget.passes {
-        let pace = drive_slices(driver, boards, gate, budget, signals)?;
+        let pace = drive_slices(driver, shared, budget)?;
         see_all(driver, desk);
-        let _heard = attend(desk, chiefs, all);
+        let _heard = attend(desk, chiefs, shared.all);
         if desk.is_pausing() {
             return Ok(());
         }
-        let told = heed_all(driver, boards, desk)?;
+        let told = heed_all(driver, shared.boards, desk)?;
         if !told && pace != Pace::Moves {
             return Ok(());
         }
@@ -79,21 +76,18 @@ fn alternate_passes<G: Gate>(
 /// memory that is not there the driver has failed.
 pub(crate) fn alternate<G: Gate>(
     driver: &mut Driver,
-    boards: &[Option<&Board>],
-    gate: &G,
-    budget: Budget,
-    signals: &Signals,
+    shared: &Shared<'_, G>,
     desk: &mut Desk,
     chiefs: &mut [Option<ChiefSeat>],
-    all: &[Option<&Board>],
 )
-    requires may { MayDrive (turns_of budget) boards.now driver.old }
-    requires led { AreLedOn all.now chiefs.old }
-    ensures driven { driver.new.failed ≡ false → HasDrivenAll (turns_of budget)
-        boards.now driver.old driver.new }
-    ensures led { AreLedOn all.now chiefs.new }
+    requires may { MayDrive (turns_of shared.now.budget) shared.now.boards.now driver.old }
+    requires led { AreLedOn shared.now.all.now chiefs.old }
+    ensures driven { driver.new.failed ≡ false → HasDrivenAll (turns_of shared.now.budget)
+        shared.now.boards.now driver.old driver.new }
+    ensures led { AreLedOn shared.now.all.now chiefs.new }
 {
-    if alternate_passes(driver, boards, gate, budget, signals, desk, chiefs, all).is_err() {
+    let budget = in_slices(shared.budget);
+    if alternate_passes(driver, shared, budget, desk, chiefs).is_err() {
         driver.failed = true;
     }
 }

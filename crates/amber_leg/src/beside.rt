@@ -1,18 +1,17 @@
-//! Drivers that drive their workers side by side, one driver a thread, with a coordinator beside them where there is a desk for
-//! one. Over `drive` of `driver`, `coordinate` of `coordinator` and `alternate` of `alternating`.
+//! Drivers that drive their workers side by side, each on a thread of its own, and the coordinator on that of one of them, where
+//! there is a desk for one. Over `drive` of `driver`, `lead` of `leading` and `alternate` of `alternating`.
 
-ghost use Rattle.std.specs.Prelude.{All, length, ◌≡◌, ◌<◌};
+ghost use Rattle.std.specs.Prelude.{All, false, length, ◌≡◌, ◌<◌};
 ghost use Rattle.amber_leg.specs.Coordinating.{AreLedOn};
 ghost use Rattle.amber_leg.specs.Dealing.{HaveDriven};
-ghost use Rattle.amber_leg.specs.Driving.{MayDrive, turns_of};
+ghost use Rattle.amber_leg.specs.Driving.{HasDrivenAll, MayDrive, turns_of};
 
 use crate::alternating::alternate;
-use crate::budget::Budget;
-use crate::coordinator::coordinate;
 use crate::desk::Desk;
 use crate::driver::{Driver, drive};
-use crate::signals::Signals;
-use amber_board::{Board, ChiefSeat};
+use crate::leading::lead;
+use crate::shared::Shared;
+use amber_board::ChiefSeat;
 use amber_mail::Gate;
 use std::thread;
 use std::thread::Threads;
@@ -21,111 +20,96 @@ use std::thread::Threads;
 fn drive_all<R: Threads + Sync, G: Gate + Sync>(
     rt: &R,
     drivers: &mut [Driver],
-    boards: &[Option<&Board>],
-    gate: &G,
-    budget: Budget,
-    signals: &Signals,
+    shared: &Shared<'_, G>,
 )
-    requires some { 0 < length drivers.old }
-    requires may { All (MayDrive (turns_of budget) boards.now) drivers.old }
-    ensures driven { HaveDriven (turns_of budget) boards.now drivers.old drivers.new }
+    requires may { All (MayDrive (turns_of shared.now.budget) shared.now.boards.now) drivers.old }
+    ensures driven { HaveDriven (turns_of shared.now.budget) shared.now.boards.now
+        drivers.old drivers.new }
 {
-    let threads = drivers.len();
+    let threads = drivers.len().max(1);
     thread::for_each_mut(
         rt,
         drivers,
         threads,
         &|_, driver| {
-            drive(driver, boards, gate, budget, signals);
-            signals.come_home();
+            drive(driver, shared);
+            shared.signals.come_home();
         },
     );
 }
 
-// The same, with the coordinator on a thread of its own. Where there is none to be had it has its turns behind the workers.
-fn drive_coordinated<R: Threads + Sync, G: Gate + Sync>(
+// One driver leads the others, who are beside it, each on a thread of its own.
+fn lead_others<R: Threads + Sync, G: Gate + Sync>(
     rt: &R,
-    drivers: &mut [Driver],
-    boards: &[Option<&Board>],
-    gate: &G,
-    budget: Budget,
-    signals: &Signals,
+    beside: &mut [Driver],
+    leading: &mut Driver,
+    shared: &Shared<'_, G>,
     desk: &mut Desk,
     chiefs: &mut [Option<ChiefSeat>],
-    all: &[Option<&Board>],
 )
-    requires some { 0 < length drivers.old }
-    requires may { All (MayDrive (turns_of budget) boards.now) drivers.old }
-    requires led { AreLedOn all.now chiefs.old }
-    ensures driven { HaveDriven (turns_of budget) boards.now drivers.old drivers.new }
-    ensures led { AreLedOn all.now chiefs.new }
+    requires beside { All (MayDrive (turns_of shared.now.budget) shared.now.boards.now)
+        beside.old }
+    requires leading { MayDrive (turns_of shared.now.budget) shared.now.boards.now leading.old }
+    requires led { AreLedOn shared.now.all.now chiefs.old }
+    ensures beside { HaveDriven (turns_of shared.now.budget) shared.now.boards.now
+        beside.old beside.new }
+    ensures leading { leading.new.failed ≡ false → HasDrivenAll (turns_of shared.now.budget)
+        shared.now.boards.now leading.old leading.new }
+    ensures led { AreLedOn shared.now.all.now chiefs.new }
 {
-    let count = drivers.len();
+    let others = beside.len();
     thread::join_mut(
         rt,
-        &mut || coordinate(desk, chiefs, all, gate, signals, count),
+        &mut || lead(leading, shared, desk, chiefs, others),
         &mut ||
-            requires some { 0 < length drivers.now }
-            requires may { All (MayDrive (turns_of budget) boards.now) drivers.now }
-        { drive_all(rt, drivers, boards, gate, budget, signals) },
+            requires may { All (MayDrive (turns_of shared.now.budget) shared.now.boards.now)
+                beside.now }
+        { drive_all(rt, beside, shared) },
     );
 }
 
-// The same on the caller's thread alone, where there is one driver.
-fn drive_alone<G: Gate>(
+// The last driver leads the others: the coordinator has its turns on its thread. Where there is one driver it has a thread to
+// itself.
+fn drive_led<R: Threads + Sync, G: Gate + Sync>(
+    rt: &R,
     drivers: &mut [Driver],
-    boards: &[Option<&Board>],
-    gate: &G,
-    budget: Budget,
-    signals: &Signals,
+    shared: &Shared<'_, G>,
     desk: &mut Desk,
     chiefs: &mut [Option<ChiefSeat>],
-    all: &[Option<&Board>],
 )
-    requires one { length drivers.old ≡ 1 }
-    requires may { All (MayDrive (turns_of budget) boards.now) drivers.old }
-    requires led { AreLedOn all.now chiefs.old }
-    ensures driven { HaveDriven (turns_of budget) boards.now drivers.old drivers.new }
-    ensures led { AreLedOn all.now chiefs.new }
+    requires some { 0 < length drivers.old }
+    requires may { All (MayDrive (turns_of shared.now.budget) shared.now.boards.now) drivers.old }
+    requires led { AreLedOn shared.now.all.now chiefs.old }
+    ensures driven { HaveDriven (turns_of shared.now.budget) shared.now.boards.now
+        drivers.old drivers.new }
+    ensures led { AreLedOn shared.now.all.now chiefs.new }
 {
-    alternate(
-        &mut drivers[0],
-        boards,
-        gate,
-        budget,
-        signals,
-        desk,
-        chiefs,
-        all,
-    );
+    let others = drivers.len() - 1;
+    if others == 0 {
+        alternate(&mut drivers[0], shared, desk, chiefs);
+        return;
+    }
+    let (beside, leading) = drivers.split_at_mut(others);
+    lead_others(rt, beside, &mut leading[0], shared, desk, chiefs);
 }
 
-/// All drivers drive their workers, and where there is a desk a coordinator is beside them. The boards are those of the
-/// workers' operators, by the workers' numbers, and then those of all operators, in the places of their chiefs.
+/// All drivers drive their workers, and where there is a desk a coordinator is beside them.
 pub(crate) fn drive_beside<R: Threads + Sync, G: Gate + Sync>(
     rt: &R,
     drivers: &mut [Driver],
-    boards: &[Option<&Board>],
-    gate: &G,
-    budget: Budget,
+    shared: &Shared<'_, G>,
     desk: &mut Option<Desk>,
     chiefs: &mut [Option<ChiefSeat>],
-    all: &[Option<&Board>],
 )
     requires some { 0 < length drivers.old }
-    requires may { All (MayDrive (turns_of budget) boards.now) drivers.old }
-    requires led { AreLedOn all.now chiefs.old }
-    ensures driven { HaveDriven (turns_of budget) boards.now drivers.old drivers.new }
-    ensures led { AreLedOn all.now chiefs.new }
+    requires may { All (MayDrive (turns_of shared.now.budget) shared.now.boards.now) drivers.old }
+    requires led { AreLedOn shared.now.all.now chiefs.old }
+    ensures driven { HaveDriven (turns_of shared.now.budget) shared.now.boards.now
+        drivers.old drivers.new }
+    ensures led { AreLedOn shared.now.all.now chiefs.new }
 {
-    let signals = Signals::new();
     match desk {
-        Some(desk) if drivers.len() == 1 => {
-            drive_alone(drivers, boards, gate, budget, &signals, desk, chiefs, all)
-        }
-        Some(desk) => drive_coordinated(
-            rt, drivers, boards, gate, budget, &signals, desk, chiefs, all,
-        ),
-        None => drive_all(rt, drivers, boards, gate, budget, &signals),
+        Some(desk) => drive_led(rt, drivers, shared, desk, chiefs),
+        None => drive_all(rt, drivers, shared),
     }
 }

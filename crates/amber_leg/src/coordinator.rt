@@ -1,11 +1,11 @@
 //! The coordinator beside the workers of a round: it hears what they note, has all paused as soon as a stop is seen, and has
-//! units divided among those that need some. Over `Desk` and `divide_all`.
+//! units divided among those that need some. Over `Desk`, `divide_all` and `Shared`.
 
 ghost use Rattle.amber_leg.specs.Coordinating.{AreLedOn};
 
 use crate::desk::Desk;
 use crate::dividing::divide_all;
-use crate::signals::Signals;
+use crate::shared::Shared;
 use amber_board::{Board, ChiefSeat};
 use amber_mail::Gate;
 use std::thread::yield_now;
@@ -37,20 +37,18 @@ pub(crate) fn attend(
 pub(crate) fn coordinate<G: Gate>(
     desk: &mut Desk,
     chiefs: &mut [Option<ChiefSeat>],
-    boards: &[Option<&Board>],
-    gate: &G,
-    signals: &Signals,
+    shared: &Shared<'_, G>,
     drivers: usize,
 )
-    requires led { AreLedOn boards.now chiefs.old }
-    ensures led { AreLedOn boards.now chiefs.new }
+    requires led { AreLedOn shared.now.all.now chiefs.old }
+    ensures led { AreLedOn shared.now.all.now chiefs.new }
 {
     'turns: for _ in 0..TURNS {
-        if signals.have_come_home(drivers) {
+        if shared.signals.have_come_home(drivers) {
             return;
         }
-        let heard = attend(desk, chiefs, boards);
-        let told = desk.tell(gate, signals);
+        let heard = attend(desk, chiefs, shared.all);
+        let told = desk.tell(shared.gate, &shared.signals);
         if !heard && !told {
             yield_now();
         }

@@ -1,13 +1,13 @@
-//! The workers that one thread drives, and their turns in a round. Over `slices` and `PauseMail`.
+//! The workers that one thread drives, and their turns in a round. Over `slices`, `PauseMail` and `Shared`.
 
 ghost use Rattle.std.specs.Prelude.{◌≡◌, OnOk, false};
 ghost use Rattle.amber_leg.specs.Driving.{HasDrivenAll, MayDrive, turns_of};
 
 use crate::budget::Budget;
 use crate::pause_mail::PauseMail;
+use crate::shared::Shared;
 use crate::signals::Signals;
 use crate::slices::{Pace, drive_place};
-use amber_board::Board;
 use amber_mail::{Gate, RingMail};
 use amber_worker::Worker;
 use std::alloc::AllocError;
@@ -50,23 +50,21 @@ fn put_mail(ends: &mut Vec<Option<RingMail>>, place: usize, mail: Option<PauseMa
 /// A slice of each worker of a driver, one after the other. The answer is that of the worker that is furthest from standing.
 pub(crate) fn drive_slices<G: Gate>(
     driver: &mut Driver,
-    boards: &[Option<&Board>],
-    gate: &G,
+    shared: &Shared<'_, G>,
     budget: Budget,
-    signals: &Signals,
 ) -> Result<Pace, AllocError>
-    requires may { MayDrive budget.slice boards.now driver.old }
-    ensures driven { OnOk result (HasDrivenAll budget.slice boards.now
+    requires may { MayDrive budget.slice shared.now.boards.now driver.old }
+    ensures driven { OnOk result (HasDrivenAll budget.slice shared.now.boards.now
         driver.old driver.new) }
 {
     let mut pace = Pace::Stands;
-    'places: for place in 0..boards.len() {
-        let mut mail = take_mail(&mut driver.ends, place, signals);
+    'places: for place in 0..shared.boards.len() {
+        let mut mail = take_mail(&mut driver.ends, place, &shared.signals);
         let stands = drive_place(
             &mut driver.workers[place],
             &mut mail,
-            boards[place],
-            gate,
+            shared.boards[place],
+            shared.gate,
             budget,
         )?;
         put_mail(&mut driver.ends, place, mail);
@@ -88,20 +86,15 @@ fn wait() {
 
 // Slices of a driver's workers, until all have made their turns, or none of them has moved for as many looks as the budget
 // allows, or all stand.
-fn drive_passes<G: Gate>(
-    driver: &mut Driver,
-    boards: &[Option<&Board>],
-    gate: &G,
-    budget: Budget,
-    signals: &Signals,
-) -> Result<(), AllocError>
-    requires may { MayDrive (turns_of budget) boards.now driver.old }
-    ensures driven { OnOk result (HasDrivenAll (turns_of budget)
-        boards.now driver.old driver.new) }
+fn drive_passes<G: Gate>(driver: &mut Driver, shared: &Shared<'_, G>) -> Result<(), AllocError>
+    requires may { MayDrive (turns_of shared.now.budget) shared.now.boards.now driver.old }
+    ensures driven { OnOk result (HasDrivenAll (turns_of shared.now.budget)
+        shared.now.boards.now driver.old driver.new) }
 {
+    let budget = shared.budget;
     let mut looks = 0;
     'passes: for made in 0..budget.passes {
-        match drive_slices(driver, boards, gate, budget, signals)? {
+        match drive_slices(driver, shared, budget)? {
             Pace::Moves => looks = 0,
             Pace::Waits if looks < budget.looks && made + 1 < budget.passes => {
                 looks += 1;
@@ -114,18 +107,12 @@ fn drive_passes<G: Gate>(
 }
 
 /// A driver's workers make the turns of a round. Where one of them wants memory that is not there the driver has failed.
-pub(crate) fn drive<G: Gate>(
-    driver: &mut Driver,
-    boards: &[Option<&Board>],
-    gate: &G,
-    budget: Budget,
-    signals: &Signals,
-)
-    requires may { MayDrive (turns_of budget) boards.now driver.old }
-    ensures driven { driver.new.failed ≡ false → HasDrivenAll (turns_of budget)
-        boards.now driver.old driver.new }
+pub(crate) fn drive<G: Gate>(driver: &mut Driver, shared: &Shared<'_, G>)
+    requires may { MayDrive (turns_of shared.now.budget) shared.now.boards.now driver.old }
+    ensures driven { driver.new.failed ≡ false → HasDrivenAll (turns_of shared.now.budget)
+        shared.now.boards.now driver.old driver.new }
 {
-    if drive_passes(driver, boards, gate, budget, signals).is_err() {
+    if drive_passes(driver, shared).is_err() {
         driver.failed = true;
     }
 }

@@ -14,6 +14,8 @@ use crate::desk::Desk;
 use crate::done::{begin_round, end_round};
 use crate::driver::Driver;
 use crate::owners::owners_of;
+use crate::shared::Shared;
+use crate::signals::Signals;
 use crate::watch::Watch;
 use amber_board::Board;
 use amber_boards::LentBoards;
@@ -203,16 +205,14 @@ pub(crate) fn drive_crew<R: Threads + Sync, G: Gate + Sync>(
     let all = boards_in(alloc, &crew.boards, crew.chiefs.len())?;
     let drivers = made.as_mut_slice();
     deal(&mut crew.workers, owners, drivers);
-    drive_beside(
-        rt,
-        drivers,
-        boards.as_slice(),
+    let shared = Shared {
+        boards: boards.as_slice(),
+        all: all.as_slice(),
         gate,
         budget,
-        &mut desk,
-        crew.chiefs.as_mut_slice(),
-        all.as_slice(),
-    );
+        signals: Signals::new(),
+    };
+    drive_beside(rt, drivers, &shared, &mut desk, crew.chiefs.as_mut_slice());
     if has_any_failed(drivers) {
         return Err(AllocError);
     }

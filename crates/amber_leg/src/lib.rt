@@ -9,18 +9,21 @@
 //! stop stands. Where none does it makes one step by itself, so that each round gets on. In the
 //! end the leg stands in the home's log.
 //!
-//! Where a pause, a count or a condition is in force a coordinator is beside the workers. It hears
-//! what they note, has all of them paused as soon as a stop is seen, and has the units of a count
-//! divided among those that need some. On several threads it has one of its own; on one it has a
-//! turn behind each slice of the workers, and the round ends where all would be paused, so that
-//! such a run is the same whenever it is made. What it hears are hints: whatever it hears, the chief of each board leads it still, with no unit in
-//! hand.
+//! Where a count or a condition is in force, or a pause may come due in the round, a coordinator is
+//! beside the workers. It hears what they note, has all of them paused as soon as a stop is seen,
+//! and has the units of a count divided among those that need some. It has its turns on the thread
+//! of the last driver, one behind each slice of that driver's workers. Where there is one thread
+//! the round ends as soon as all would be paused, so that such a run is the same whenever it is
+//! made. What it hears are hints: whatever it hears, the chief of each board leads it still, with
+//! no unit in hand.
 //!
-//! Whatever the threads, the gate and the schedule: the log stays legal, a leg is closed as cut exactly where a stop stands, or
-//! to the end where all have finished, and as too long exactly where the run has made as many steps as it may and that is not
-//! so. An operator goes past a pause by 1,024 rows a worker at most, which is a round where one is in force; a count stands at
-//! exactly its target. At home no more steps are made than each worker is driven for turns, but for as many as there are
-//! workers; and the steps of a leg are no more than those made at home and the turns of all workers together.
+//! Whatever the threads, the gate and the schedule: the log stays legal, a leg is closed as cut
+//! exactly where a stop stands, or to the end where all have finished, and as too long exactly
+//! where the run has made as many steps as it may and that is not so. An operator goes past a pause
+//! by 1,024 rows a worker at most, which is a round in which one may come due; a count stands at
+//! exactly its target. At home no more steps are made than each worker is driven for turns, but for
+//! as many as there are workers; and the steps of a leg are no more than those made at home and the
+//! turns of all workers together.
 //!
 //! For instance, `leg` to the end on four threads, at the home of a workflow of four scans, four
 //! filters and a sink, gives in the first round each driver a scan and the filter behind it, and
@@ -39,12 +42,15 @@ mod driver;
 mod drivers;
 pub mod error;
 mod known;
+mod leading;
 mod legs;
 mod looking;
+mod nearness;
 mod owners;
 mod pause_mail;
 mod round;
 mod rounds;
+mod shared;
 mod signals;
 mod slices;
 mod watch;

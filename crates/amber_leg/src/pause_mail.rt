@@ -1,7 +1,8 @@
 //! Where a worker looks before each turn of a drive: whether all are to pause. What else it is told waits until the drive is over,
 //! and what it has done is noted then. Over `RingMail` of `amber_mail` and `Signals`.
 
-ghost use Rattle.std.specs.Prelude.{◌≡◌, ◌≤◌, None, false};
+ghost use Rattle.std.specs.Prelude.{◌≡◌, ◌≤◌, ◌++◌, [], IfNone, None, false, option_to_list};
+ghost use Rattle.amber_mail.specs.Rings.{taken_controls, waiting_controls};
 
 use crate::signals::Signals;
 use amber_mail::{Control, Mail, Note, RingMail};
@@ -63,7 +64,11 @@ impl<'a> PauseMail<'a> {
     }
 
     /// What the worker was told, if it was told anything, and has not heard of yet.
-    pub fn take_told(&mut self) -> Option<Control> {
+    pub fn take_told(&mut self) -> Option<Control>
+        ensures taken { taken_controls self.new.ring
+            ≡ taken_controls self.old.ring ++ option_to_list result }
+        ensures none { IfNone result (waiting_controls self.new.ring ≡ []) }
+    {
         self.ring.count_looks_anew();
         self.ring.look()
     }

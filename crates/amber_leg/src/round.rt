@@ -37,7 +37,7 @@ pub(crate) fn round<R: Threads + Sync, G: Gate + Sync>(
     ensures err { OnErr result (home.new ≡ spent_at home.old) }
 {
     let _most = home.most();
-    let watch = match watch_of(alloc, home) {
+    let watch = match watch_of(alloc, home, budget.near) {
         Ok(watch) => watch,
         Err(error) => {
             home.give_up();

@@ -4,7 +4,7 @@ ghost use Rattle.std.specs.Prelude.{◌+◌, ◌^◌, ◌<◌, ◌≤◌, OnOk};
 ghost use Rattle.std.specs.Option.{option_copied};
 ghost use Rattle.amber_worker.specs.Counting.{IsBoardOf};
 ghost use Rattle.amber_worker.specs.WorkerState.{steps_made};
-ghost use Rattle.amber_leg.specs.Slices.{HasCounted, HasTurnedSo, Heeds, MayTurn};
+ghost use Rattle.amber_leg.specs.Slices.{DrivesAndHeeds, HasCounted, HasTurnedSo, HeedsAt, HeedsMail, MayTurn};
 
 use crate::budget::Budget;
 use crate::pause_mail::PauseMail;
@@ -34,7 +34,7 @@ fn pace_of(last: Option<Turn>, heard: bool) -> Pace {
     }
 }
 
-// A worker does what it was told, if it was told anything. The answer is whether it was.
+// A worker looks into its mail, and does what it was told, if it was told anything. The answer is whether it was.
 fn heed_told(
     worker: &mut Worker,
     mail: &mut PauseMail<'_>,
@@ -42,7 +42,8 @@ fn heed_told(
 ) -> Result<bool, AllocError>
     requires own { IsBoardOf (option_copied board) worker.old.seat }
     ensures own { OnOk result (IsBoardOf (option_copied board.entry) worker.new.seat) }
-    ensures heeds { OnOk result (Heeds worker.old worker.new) }
+    ensures heeds { OnOk result
+        (HeedsMail mail.old.ring mail.new.ring worker.old worker.new) }
 {
     let Some(control) = mail.take_told() else {
         return Ok(false);
@@ -80,6 +81,7 @@ fn drive_heard<G: Gate>(
     requires own { IsBoardOf (option_copied board) worker.old.seat }
     requires fits { worker.old.turned + turns < 2 ^ 64 }
     ensures made { OnOk result (HasCounted turns worker.old worker.new) }
+    ensures heeds { OnOk result (DrivesAndHeeds turns mail.new.ring worker.old worker.new) }
     ensures own { OnOk result (IsBoardOf (option_copied board.entry) worker.new.seat) }
 {
     mail.count_looks_anew();
@@ -164,6 +166,7 @@ pub(crate) fn heed_place(
     requires may { MayTurn 0 (option_copied board) place.old }
     ensures turned { OnOk result
         (HasTurnedSo 0 (option_copied board.entry) place.old place.new) }
+    ensures heeds { OnOk result (HeedsAt told place.old place.new) }
 {
     let Some(worker) = place else {
         return Ok(false);

@@ -13,11 +13,11 @@ pub(crate) struct Watch {
     pub pauses: Vec<Option<u64>>,
 }
 
-// Whether a pause, a count or a condition is in force.
-fn is_anything_in_force(home: &Home) -> bool
+// Whether a count or a condition is in force.
+fn has_count_or_condition(home: &Home) -> bool
     requires within { is_open home.now.phase ≡ true }
 {
-    home.has_pause() || home.has_count() || home.has_condition()
+    home.has_count() || home.has_condition()
 }
 
 // The rows that all operators' pauses ask for.
@@ -33,11 +33,11 @@ fn pauses_of(alloc: Global, home: &Home) -> Result<Vec<Option<u64>>, AllocError>
     Ok(pauses)
 }
 
-/// What is watched for: nothing where nothing is in force.
-pub(crate) fn watch_of(alloc: Global, home: &Home) -> Result<Option<Watch>, AllocError>
+/// What is watched for: nothing where neither a count nor a condition is in force, and no pause is near.
+pub(crate) fn watch_of(alloc: Global, home: &Home, near: bool) -> Result<Option<Watch>, AllocError>
     requires within { is_open home.now.phase ≡ true }
 {
-    if !is_anything_in_force(home) {
+    if !near && !has_count_or_condition(home) {
         return Ok(None);
     }
     let pauses = pauses_of(alloc, home)?;

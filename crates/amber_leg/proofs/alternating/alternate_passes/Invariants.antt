@@ -6,6 +6,6 @@ use Rattle.amber_leg.proofs.alternating.alternate_passes.Given as goal
 
 abbrev pub invariant-passes : goal.invariant-passes
 invariant-passes g l = record {
-  driven : HasDrivenAll (l._made * l.budget.slice) l.boards l.initial.driver l.driver;
-  led : AreLedOn l.all l.chiefs;
+  driven : HasDrivenAll (l._made * l.budget.slice) l.shared.boards.now l.initial.driver l.driver;
+  led : AreLedOn l.shared.all.now l.chiefs;
 }

@@ -4,5 +4,5 @@ use Rattle.amber_leg.proofs.coordinator.coordinate.Given as goal
 
 abbrev pub invariant-turns : goal.invariant-turns
 invariant-turns g l = record {
-  led : AreLedOn l.boards l.chiefs;
+  led : AreLedOn l.shared.all.now l.chiefs;
 }

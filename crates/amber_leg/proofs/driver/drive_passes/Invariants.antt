@@ -5,5 +5,5 @@ use Rattle.amber_leg.proofs.driver.drive_passes.Given as goal
 
 abbrev pub invariant-passes : goal.invariant-passes
 invariant-passes g l = record {
-  driven : HasDrivenAll (l.made * l.budget.slice) l.boards l.initial.driver l.driver;
+  driven : HasDrivenAll (l.made * l.shared.budget.slice) l.shared.boards.now l.initial.driver l.driver;
 }
