@@ -1,4 +1,5 @@
 pub mod Lookup
 pub mod Pieces
+pub mod Taken
 pub mod Told
 pub mod Worlds

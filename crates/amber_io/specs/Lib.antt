@@ -7,3 +7,5 @@ pub mod MemFolder
 pub mod MemSink
 pub mod Real
 pub mod World
+pub mod Source
+pub mod MemSource

@@ -1,7 +1,8 @@
-//! The outside of the engine as traits: a folder of named files, a sink of bytes, and both as one.
+//! The outside of the engine as traits: a folder of named files, a sink of bytes, and both as one; and a
+//! source of bytes.
 //!
-//! `MemFolder` and `MemSink` keep all in memory and fail where they are told to. `RealFolder` and
-//! `RealSink` stand on the runtime's files and its standard output.
+//! `MemFolder`, `MemSink` and `MemSource` keep all in memory and fail where they are told to. `RealFolder`,
+//! `RealSink` and `RealSource` stand on the runtime's files, its standard output and its standard input.
 #![tactic(auto)]
 
 pub use error::IoErr;
@@ -9,10 +10,13 @@ pub use fails::{Fails, Numbers};
 pub use folder::Folder;
 pub use mem_folder::MemFolder;
 pub use mem_sink::MemSink;
+pub use mem_source::MemSource;
 pub use named_files::NamedFiles;
 pub use outside::{FolderAndSink, Outside};
 pub use real::{RealFolder, RealSink};
+pub use real_source::RealSource;
 pub use sink::Sink;
+pub use source::Source;
 pub use std::alloc::AllocError as NoMemory;
 
 mod error;
@@ -20,7 +24,10 @@ mod fails;
 mod folder;
 mod mem_folder;
 mod mem_sink;
+mod mem_source;
 mod named_files;
 mod outside;
 mod real;
+mod real_source;
 mod sink;
+mod source;
