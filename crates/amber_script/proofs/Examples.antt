@@ -16,14 +16,14 @@ use Rattle.amber_log.specs.declared.command.Command.TheVariants as command
 use Rattle.amber_log.specs.Operands.{comparison_of}
 use Rattle.amber_script.specs.Commands.{break_by, command_by, read_command}
 use Rattle.amber_script.specs.Numbers.{number_up_to, whole_number}
-use Rattle.amber_script.specs.Script.{commands_from, says, script_of}
+use Rattle.amber_script.specs.Script.{commands_from, said_by, says, script_of}
 use Rattle.amber_script.specs.Words.{words_from, script_words_of}
 use Rattle.amber_script.specs.declared.error.ScriptWhy.{ScriptWhy}
 use Rattle.amber_script.specs.declared.error.ScriptWhy.TheVariants as why
 
 -- what unfolds
 unfoldable pub scripts_on_literals : ⊤
-unfolding break_by command_by comparison_of read_command number_up_to whole_number commands_from says script_of words_from read_int_of digits is_utf8 chars lib.Utf8.encode
+unfolding break_by command_by comparison_of read_command number_up_to whole_number commands_from said_by says script_of words_from read_int_of digits is_utf8 chars lib.Utf8.encode
 scripts_on_literals = tt
 
 -- ---- a workflow: orders, those of some quantity by two workers, those of no nuts, the sink

@@ -1,10 +1,12 @@
 pub mod ExampleBreaks
+pub mod ExampleLines
 pub mod Examples
 pub mod Fitting
 pub mod Joining
 pub mod Leading
 pub mod Narrow
 pub mod NumberWords
+pub mod OpenLines
 pub mod Pieces
 pub mod Saying
 pub mod Texts

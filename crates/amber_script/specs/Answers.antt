@@ -4,6 +4,8 @@ use Rattle.amber_log.specs.declared.command.Command.{Command}
 use Rattle.amber_script.specs.Script.{BadLine, script_lines}
 use Rattle.amber_script.specs.declared.error.ScriptErr.{ScriptErr}
 use Rattle.amber_script.specs.declared.error.ScriptErr.TheVariants.{Bad, NoMemory}
+use Rattle.amber_script.specs.declared.script_line.ScriptLine.{ScriptLine}
+use Rattle.amber_script.specs.declared.script_line.ScriptLine.TheVariants as script_line
 
 -- the commands that were meant; the first bad line and its first reason; or nothing, where memory ran out
 abbrev pub AnswersScript : Result (List Command) ScriptErr → Result (List Command) BadLine → Type 0
@@ -12,6 +14,12 @@ AnswersScript (Err (Bad line why)) meant = meant ≡ Err (record { line = line; 
 AnswersScript (Err NoMemory) meant = ⊤
 
 -- ---- line by line
+
+-- a fact about the command of a line, where it has one
+abbrev pub ForCommand : ScriptLine → (Command → Type 0) → Type 0
+ForCommand script_line.Skipped P = ⊤
+ForCommand (script_line.Command command) P = P command
+ForCommand (script_line.Bad reason) P = ⊤
 
 -- commands that were read, before those of further lines
 abbrev pub after : List Command → Result (List Command) BadLine → Result (List Command) BadLine

@@ -2,6 +2,7 @@ pub mod Answers
 pub mod Commands
 pub mod Laws
 pub mod Lexing
+pub mod Lines
 pub mod Numbers
 pub mod Reasons
 pub mod Script

@@ -7,6 +7,8 @@ use Rattle.amber_log.specs.declared.command.Command.{Command}
 use Rattle.amber_script.specs.Commands.{read_command}
 use Rattle.amber_script.specs.Words.{is_blank, script_words_of}
 use Rattle.amber_script.specs.declared.error.ScriptWhy.{ScriptWhy}
+use Rattle.amber_script.specs.declared.script_line.ScriptLine.{ScriptLine}
+use Rattle.amber_script.specs.declared.script_line.ScriptLine.TheVariants as script_line
 
 -- the lines of a text, which end with a line feed; the last may lack it. One carriage return at a line's end is dropped
 abbrev pub script_lines : List ℕ → List (List ℕ)
@@ -22,17 +24,26 @@ pub record BadLine : Type 0 where
   pub line : ℕ
   pub why : ScriptWhy
 
--- a command before the others, or the reason of the line with this number
-abbrev pub before : ℕ → Result Command ScriptWhy → Result (List Command) BadLine → Result (List Command) BadLine
-before line (Err reason) others = Err (record { line = line; why = reason })
-before line (Ok command) (Err bad) = Err bad
-before line (Ok command) (Ok commands) = Ok (command ∷ commands)
+-- a command, or the first reason why there is none
+abbrev pub said : Result Command ScriptWhy → ScriptLine
+said (Ok command) = script_line.Command command
+said (Err reason) = script_line.Bad reason
+
+-- what a line says to a workflow: nothing, or what its words mean
+unfoldable pub said_by : List Operator → List ℕ → ScriptLine
+said_by flow line = if says line then said (read_command flow (script_words_of line)) else script_line.Skipped
+
+-- what the line with this number says, before the others
+abbrev pub before : ℕ → ScriptLine → Result (List Command) BadLine → Result (List Command) BadLine
+before number script_line.Skipped others = others
+before number (script_line.Bad reason) others = Err (record { line = number; why = reason })
+before number (script_line.Command command) (Err bad) = Err bad
+before number (script_line.Command command) (Ok commands) = Ok (command ∷ commands)
 
 -- the commands of these lines, of which the first has this number
 unfoldable pub commands_from : ℕ → List Operator → List (List ℕ) → Result (List Command) BadLine
 commands_from number flow [] = Ok []
-commands_from number flow (line ∷ lines) =
-    if says line then before number (read_command flow (script_words_of line)) (commands_from (number + 1) flow lines) else commands_from (number + 1) flow lines
+commands_from number flow (line ∷ lines) = before number (said_by flow line) (commands_from (number + 1) flow lines)
 
 -- the script that a text means for a workflow: the commands of its lines, or its first bad line and that line's first reason
 unfoldable pub script_of : List ℕ → List Operator → Result (List Command) BadLine

@@ -1,8 +1,8 @@
 //! The lines of a text, one after the other.
 
-ghost use Rattle.std.specs.Prelude.{◌≡◌, ◌+◌, ◌∷◌, ◌==◌, [], length, IfSome, MatchOption};
-ghost use Rattle.std.specs.List.{slice_split};
+ghost use Rattle.std.specs.Prelude.{◌≡◌, ◌+◌, ◌∷◌, ◌++◌, [], length, true, IfSome, MatchOption};
 ghost use Rattle.std.specs.Str.Lines.{strip_carriage_return};
+ghost use Rattle.amber_script.specs.Lines.{is_within_line};
 ghost use Rattle.amber_script.specs.Script.{script_lines, says};
 
 use crate::place::is_blank;
@@ -14,6 +14,9 @@ pub fn next_line(bytes: &[u8]) -> (&[u8], Option<&[u8]>)
         (script_lines bytes.now ≡ strip_carriage_return result.0.now ∷ [])
         (λ rest. script_lines bytes.now
         ≡ strip_carriage_return result.0.now ∷ script_lines rest.now) }
+    ensures within { is_within_line result.0.now ≡ true }
+    ensures split { MatchOption result.1 (bytes.now ≡ result.0.now)
+        (λ rest. bytes.now ≡ result.0.now ++ 10 ∷ rest.now) }
     ensures shorter { IfSome result.1
         (λ rest. length bytes.now ≡ length result.0.now + (length rest.now + 1)) }
 {

@@ -4,22 +4,23 @@ ghost use Rattle.std.specs.Prelude.{◌≡◌, ◌+◌, ◌∷◌, List, ℕ, If
 ghost use Rattle.std.specs.List.{list_all};
 ghost use Rattle.amber_log.specs.Fits.{fits_of};
 ghost use Rattle.std.specs.Str.Lines.{strip_carriage_return};
-ghost use Rattle.amber_script.specs.Answers.{AnswersScript, LeadsBehind, after};
+ghost use Rattle.amber_script.specs.Answers.{AnswersScript, ForCommand, LeadsBehind, after};
 ghost use Rattle.amber_script.specs.Commands.{is_scripted, read_command};
-ghost use Rattle.amber_script.specs.Script.{commands_from, script_of};
+ghost use Rattle.amber_script.specs.Script.{commands_from, said_by, script_of};
 ghost use Rattle.amber_script.specs.Words.{script_words_of};
 
 use crate::commands::read_command;
 use crate::error::{ScriptErr, ScriptWhy};
 use crate::lexer::{read_texts, read_words};
 use crate::lines::{next_line, says_something, without_return};
+use crate::script_line::ScriptLine;
 use amber_log::{Command, Commands};
 use amber_rows::Flow;
 use std::alloc::{AllocError, Global};
 
-// The command of a line, or the first reason why it has none.
+// The command of a line that says something, or the first reason why it has none.
 #[tactic(auto, unfolding(crate::specs::Commands::read_command))]
-fn read_line(
+fn read_said(
     alloc: Global,
     line: &[u8],
     flow: &Flow,
@@ -38,7 +39,28 @@ fn read_line(
     read_command(flow, texts.as_slice())
 }
 
-// Adds the command of the line with this number, where it says something.
+/// Reads one line, which comes without its line feed; a carriage return at its end is dropped. The
+/// definition `said_by` in `specs/` says what the line means for a workflow.
+#[tactic(auto, unfolding(crate::specs::Script::said_by))]
+pub fn read_line(alloc: Global, line: &[u8], flow: &Flow) -> Result<ScriptLine, AllocError>
+    ensures said { IfOk result
+        (λ read. read ≡ said_by flow.now (strip_carriage_return line.now)) }
+    ensures fits { IfOk result
+        (λ read. ForCommand read (λ command. fits_of flow.now command ≡ true)) }
+    ensures scripted { IfOk result
+        (λ read. ForCommand read (λ command. is_scripted command ≡ true)) }
+{
+    let line = without_return(line);
+    if !says_something(line) {
+        return Ok(ScriptLine::Skipped);
+    }
+    match read_said(alloc, line, flow)? {
+        Ok(command) => Ok(ScriptLine::Command(command)),
+        Err(why) => Ok(ScriptLine::Bad(why)),
+    }
+}
+
+// Adds the command of the line with this number, where it has one.
 #[tactic(auto, using(crate::proofs::Leading::reads_command, crate::proofs::Leading::reads_none, crate::proofs::Leading::skips, crate::proofs::Fitting::all_fit_more))]
 fn add_line(
     alloc: Global,
@@ -50,20 +72,19 @@ fn add_line(
     requires fits { list_all (fits_of flow.now) commands.old.items ≡ true }
     requires scripted { list_all is_scripted commands.old.items ≡ true }
     ensures leads { (more : List (List ℕ)) → LeadsBehind result
-        (after commands.old.items (commands_from number flow.now (line.now ∷ more)))
+        (after commands.old.items
+        (commands_from number flow.now (strip_carriage_return line.now ∷ more)))
         (after commands.new.items (commands_from (number + 1) flow.now more)) }
     ensures fits { list_all (fits_of flow.now) commands.new.items ≡ true }
     ensures scripted { list_all is_scripted commands.new.items ≡ true }
 {
-    if !says_something(line) {
-        return Ok(());
-    }
     match read_line(alloc, line, flow) {
-        Ok(Ok(command)) => match commands.push(command) {
+        Ok(ScriptLine::Skipped) => Ok(()),
+        Ok(ScriptLine::Command(command)) => match commands.push(command) {
             Ok(()) => Ok(()),
             Err(_) => Err(ScriptErr::NoMemory),
         },
-        Ok(Err(why)) => Err(ScriptErr::Bad { line: number, why }),
+        Ok(ScriptLine::Bad(why)) => Err(ScriptErr::Bad { line: number, why }),
         Err(_) => Err(ScriptErr::NoMemory),
     }
 }
@@ -82,7 +103,7 @@ pub fn read_script(alloc: Global, bytes: &[u8], flow: &Flow) -> Result<Commands,
     let mut more = true;
     while more {
         let (line, behind) = next_line(rest);
-        match add_line(alloc, without_return(line), number, flow, &mut commands) {
+        match add_line(alloc, line, number, flow, &mut commands) {
             Ok(()) => {}
             Err(why) => return Err(why),
         }

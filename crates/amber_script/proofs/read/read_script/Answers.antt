@@ -1,5 +1,6 @@
 -- The last line, and none after it.
 use Rattle.std.proofs.Common.{◌≡◌, ◌+◌, ℕ, List, [], ◌∷◌, Ok, refl, ap, sym, ◌∙◌}
+use Rattle.std.specs.Str.Lines.{strip_carriage_return}
 use Rattle.amber_script.specs.Answers.{after, lines_left}
 use Rattle.amber_script.specs.Script.{commands_from}
 use Rattle.amber_script.proofs.Leading.{after_end}
@@ -9,8 +10,7 @@ pub loop-more-preserved : goal.loop-more-preserved
 loop-more-preserved c =
     let meaning = λ (lines : List (List ℕ)). after c.loop-more.commands.items (commands_from c.loop-more.number c.args.flow.now lines) in
     let line = rw c.in-None.is at c.next_line.ensures.line in
-    let left : lines_left c.loop-more.more c.loop-more.rest.now ≡ c.without_return.result.now ∷ [] =
-    rw c.loop-more-test.true (line ∙ ap (λ (one : List ℕ). one ∷ []) (sym c.without_return.ensures)) in
+    let left : lines_left c.loop-more.more c.loop-more.rest.now ≡ strip_carriage_return c.next_line.result.0.now ∷ [] = rw c.loop-more-test.true line in
     record {
       meant = c.loop-more.invariant.meant ∙ ap meaning left ∙ c.in-Ok.ensures.leads [] ∙ after_end c.add_line.new.commands.items (c.loop-more.number + 1) c.args.flow.now ∙ sym (after_end c.add_line.new.commands.items c.loop-more.number c.args.flow.now);
       fit = c.in-Ok.ensures.fits;
