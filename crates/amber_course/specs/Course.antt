@@ -128,7 +128,7 @@ loaded_for flow files = then_on (scans_of flow files) (λ scans. Ok (record { fl
 
 -- ---- the order of work
 
-abbrev pub words_read : Option Words → Result Words Failure
+abbrev pub words_read : {A : Type 0} → Option A → Result A Failure
 words_read None = Err failure.Usage
 words_read (Some words) = Ok words
 

@@ -1,7 +1,9 @@
 pub mod Course
 pub mod Failure
+pub mod Lines
 pub mod Loaded
 pub mod Ready
+pub mod SessionCourse
 pub mod Status
 pub mod Steps
 pub mod Told

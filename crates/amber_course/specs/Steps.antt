@@ -7,7 +7,6 @@ use Rattle.amber_io.specs.Sink.{Begins}
 use Rattle.amber_io.specs.World.{World}
 use Rattle.amber_io.specs.declared.error.IoErr.{IoErr}
 use Rattle.amber_io.specs.declared.error.IoErr.TheVariants as io_err
-use Rattle.amber_course.specs.declared.words.Words.{Words}
 use Rattle.amber_course.specs.declared.failure.Failure.{Failure}
 use Rattle.amber_course.specs.declared.failure.Failure.TheVariants as failure
 
@@ -42,7 +41,7 @@ Judges (Err failure.NoMemory) meant = ⊤
 Judges (Err other) meant = meant ≡ Err other
 
 -- the words were read: they ask for this, or they are refused
-abbrev pub AreRead : Result Words Failure → Option Words → Type 0
+abbrev pub AreRead : {A : Type 0} → Result A Failure → Option A → Type 0
 AreRead (Ok words) meant = meant ≡ Some words
 AreRead (Err failure.Usage) meant = meant ≡ None
 AreRead (Err failure.NoMemory) meant = IsSome meant

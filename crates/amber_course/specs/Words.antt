@@ -1,6 +1,7 @@
 -- What the words of a call ask for.
 use Rattle.std.specs.Prelude.{ℕ, ◌<◌, ◌≤◌, ◌||◌, List, [], ◌∷◌, codes, bytes_eq, Option, Some, None, if◌then◌else◌, ⊤}
 use Rattle.amber_script.specs.Numbers.{number_up_to}
+use Rattle.amber_course.specs.declared.words.Sizes.{Sizes}
 use Rattle.amber_course.specs.declared.words.Words.{Words}
 use Rattle.amber_course.specs.declared.words.Words.TheVariants as form
 
@@ -10,6 +11,12 @@ most_threads = 64
 
 abbrev pub most_batch : ℕ
 most_batch = 65536
+
+-- how many threads a run has, and how many rows a batch, where both numbers are right
+abbrev pub sizes_of : Option ℕ → Option ℕ → Option Sizes
+sizes_of None batch_size = None
+sizes_of (Some threads) None = None
+sizes_of (Some threads) (Some batch_size) = Some (record { threads = threads; batch_size = batch_size })
 
 -- the words of a run, whose log is none of its other files
 abbrev pub run_words : List ℕ → List ℕ → List ℕ → Option ℕ → Option ℕ → Option Words

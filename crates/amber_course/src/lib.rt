@@ -2,27 +2,34 @@
 //! the order of work ends it, with its error line and its status.
 //!
 //! The definition `course_of` in `specs/Course.antt` says which refusal comes first, or which job is to be done, from the words
-//! and the files alone. Nothing here runs a job or writes a file.
+//! and the files alone; `session_course_of` in `specs/SessionCourse.antt` says so of a session, whose commands come later. Nothing
+//! here runs a job or writes a file.
 #![tactic(auto)]
 
 pub mod failure;
+pub mod input;
 mod inputs;
 pub mod job;
+mod line;
 mod loading;
 mod log_name;
 pub mod preparing;
 pub mod refusal;
 mod scans;
 pub mod script;
+pub mod session;
 pub mod status;
 pub mod words;
 
 pub use amber_script::ScriptWhy;
 pub use failure::{Failure, Reason};
+pub use input::{InputFault, refuse_input};
 pub use inputs::Inputs;
 pub use job::{Job, RunJob};
+pub use line::error_line;
 pub use preparing::prepare;
 pub use refusal::{put_output, refuse};
+pub use session::{SessionJob, SessionWords, prepare_session, read_session_words};
 pub use status::Status;
 pub use std::alloc::AllocError as NoMemory;
 pub use words::{RunWords, Words, read_words};

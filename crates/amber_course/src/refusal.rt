@@ -1,14 +1,16 @@
 //! How a refusal is reported: its line, put piece by piece, and the status; and the output of a call.
-//! Rests on `Outside`.
+//! Rests on `Line` and on `Outside`.
 
 ghost use Rattle.std.specs.Prelude.{◌≡◌, ◌++◌, IsOk, codes};
 ghost use Rattle.std.specs.Fmt.{decimal};
 ghost use Rattle.amber_io.specs.World.{PutsOnly};
 ghost use Rattle.amber_course.specs.Told.{Refuses};
 ghost use Rattle.amber_course.specs.Steps.{Lined, Sent};
-ghost use Rattle.amber_course.specs.Failure.{IsToldAs, error_line_of};
+ghost use Rattle.amber_course.specs.Failure.{IsToldAs};
+ghost use Rattle.amber_course.specs.Lines.{line_bytes};
 
 use crate::failure::Failure;
+use crate::line::Line;
 use crate::status::Status;
 use amber_io::{IoErr, Outside};
 use itoa::Buffer;
@@ -53,31 +55,21 @@ fn put_reason_line<W: Outside>(
     put_text_line(outside, b" ", why)
 }
 
-// The line of a failure; a sink that failed gets none.
-fn put_line<W: Outside>(outside: &mut W, failure: &Failure) -> Result<(), IoErr>
-    ensures lined { Lined result (error_line_of failure.now)
+// A line, piece by piece.
+pub(crate) fn put_line<W: Outside>(outside: &mut W, line: &Line<'_>) -> Result<(), IoErr>
+    ensures lined { Lined result (line_bytes line.now)
         (W.world outside.old) (W.world outside.new) }
     ensures only { PutsOnly (W.world outside.old) (W.world outside.new) }
     ensures held { W.held outside.new ≡ W.held outside.old }
-    ensures none { failure.now ≡ Failure.OutFault → IsOk result }
+    ensures none { line.now ≡ Line.Nothing → IsOk result }
 {
-    match failure {
-        Failure::Usage => put_piece(outside, b"error 1 usage\n"),
-        Failure::BadFlow { op, why } => {
-            put_reason_line(outside, b"error 2 flow ", u64::from(*op), why.word())
+    match line {
+        Line::Nothing => Ok(()),
+        Line::Whole(whole) => put_piece(outside, whole.as_bytes()),
+        Line::Named { words, name } => put_text_line(outside, words.as_bytes(), name),
+        Line::Reason { words, number, why } => {
+            put_reason_line(outside, words.as_bytes(), *number, why)
         }
-        Failure::BadScript { line, why } => put_reason_line(
-            outside,
-            b"error 3 script ",
-            *line,
-            why.word(),
-        ),
-        Failure::ReadFault { name } => put_text_line(outside, b"error 4 read ", name.get()),
-        Failure::LogFault => put_piece(outside, b"error 5 log write\n"),
-        Failure::OutFault => Ok(()),
-        Failure::Long => put_piece(outside, b"error 8 long\n"),
-        Failure::TooLarge { name } => put_text_line(outside, b"error 9 large ", name.get()),
-        Failure::NoMemory => put_piece(outside, b"error 10 memory\n"),
     }
 }
 
@@ -89,7 +81,7 @@ pub fn refuse<W: Outside>(outside: &mut W, failure: &Failure) -> Status
     ensures only { PutsOnly (W.world outside.old) (W.world outside.new) }
     ensures held { W.held outside.new ≡ W.held outside.old }
 {
-    match put_line(outside, failure) {
+    match put_line(outside, &Line::of(failure)) {
         Ok(()) | Err(IoErr::Failed) => failure.status(),
         Err(IoErr::NoMemory) => Status::NoMemory,
     }

@@ -4,7 +4,7 @@
 ghost use Rattle.std.specs.Prelude.{◌≡◌, ◌<◌, ◌≤◌, map, string_bytes, IfOk, IfSome, Some};
 ghost use Rattle.amber_course.specs.Steps.{AreRead};
 ghost use Rattle.amber_script.specs.Numbers.{number_up_to};
-ghost use Rattle.amber_course.specs.Words.{AreSound, run_words, call_words_of};
+ghost use Rattle.amber_course.specs.Words.{AreSizes, AreSound, call_words_of, run_words, sizes_of};
 
 use crate::failure::Failure;
 use amber_rows::Text;
@@ -46,6 +46,27 @@ fn read_plain(alloc: Global, workflow: &str) -> Result<Words, Failure>
     Ok(Words::Plain { workflow })
 }
 
+/// On how many threads a run works, from 1 to 64, and how many rows a batch has, from 1 to 65,536.
+#[derive(Clone, Copy)]
+pub(crate) struct Sizes {
+    pub threads: u32,
+    pub batch_size: u32,
+}
+
+/// The two numbers, where they are written as they must be and are in their ranges.
+pub(crate) fn read_sizes(threads: &str, batch_size: &str) -> Option<Sizes>
+    ensures read { result
+        ≡ sizes_of (number_up_to 64 threads.now) (number_up_to 65536 batch_size.now) }
+    ensures sound { IfSome result (λ sizes. AreSizes sizes.threads sizes.batch_size) }
+{
+    let threads = read_number(threads, MOST_THREADS)?;
+    let batch_size = read_number(batch_size, MOST_BATCH)?;
+    Some(Sizes {
+        threads: threads as u32,
+        batch_size: batch_size as u32,
+    })
+}
+
 // The words after `run`.
 fn read_run(
     alloc: Global,
@@ -60,10 +81,7 @@ fn read_run(
         (number_up_to 65536 batch_size.now)) }
     ensures sound { IfOk result AreSound }
 {
-    let Some(threads) = read_number(threads, MOST_THREADS) else {
-        return Err(Failure::Usage);
-    };
-    let Some(batch_size) = read_number(batch_size, MOST_BATCH) else {
+    let Some(sizes) = read_sizes(threads, batch_size) else {
         return Err(Failure::Usage);
     };
     if log == workflow || log == script {
@@ -73,8 +91,8 @@ fn read_run(
         workflow: Text::new(alloc, workflow)?,
         script: Text::new(alloc, script)?,
         log: Text::new(alloc, log)?,
-        threads: threads as u32,
-        batch_size: batch_size as u32,
+        threads: sizes.threads,
+        batch_size: sizes.batch_size,
     }))
 }
 
