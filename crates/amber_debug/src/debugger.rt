@@ -340,6 +340,13 @@ impl Debugger {
         }
     }
 
+    /// The workflow that is run.
+    pub fn flow(&self) -> &Flow
+        ensures { result.now ≡ self.now.flow }
+    {
+        self.home.flow()
+    }
+
     /// The log of the run so far.
     pub fn log(&self) -> &Log
         ensures log { result.now ≡ self.now.log }

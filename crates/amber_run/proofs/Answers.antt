@@ -13,7 +13,7 @@ use Rattle.amber_course.specs.declared.status.Status.TheVariants as status
 use Rattle.amber_course.specs.declared.failure.Failure.{Failure}
 use Rattle.amber_course.proofs.Following.{told-all}
 use Rattle.amber_run.specs.Outcome.{Answered, AsksNoRun, IsSinkStatus, MeetsLimit, Runs, Worded, WroteNothing}
-use Rattle.amber_run.specs.Writing.{Counted}
+use Rattle.amber_recorder.specs.Writing.{Counted}
 use Rattle.amber_run.proofs.Deciding.{answers, answers-ok, complete, lates, loads-grow, log-rose, log-unasked, out-rose, puts-grow, read-is, usage-is, words-bad, words-ok, writes-grow}
 use Rattle.amber_run.proofs.Longing.{long-done, long-stopped}
 use Rattle.amber_run.proofs.Refusing.{HasStopped, ended, not-ok, refused-as}

@@ -20,7 +20,7 @@ use Rattle.amber_course.specs.Steps.{Tells}
 use Rattle.amber_course.specs.Failure.{status_of}
 use Rattle.amber_run.specs.RunTask.{AlterNothing, RunTask, end_alone, most_steps}
 use Rattle.amber_course.specs.Words.{call_words_of}
-use Rattle.amber_run.specs.Writing.{FailedAs}
+use Rattle.amber_recorder.specs.Writing.{FailedAs}
 use Rattle.amber_course.specs.declared.job.Job.{Job}
 use Rattle.amber_course.specs.declared.job.Job.TheVariants as job
 use Rattle.amber_course.specs.declared.status.Status.{Status}

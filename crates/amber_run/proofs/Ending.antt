@@ -16,8 +16,8 @@ use Rattle.amber_course.specs.declared.failure.Failure.TheVariants as failure
 use Rattle.amber_course.proofs.Following.{names-map, stopped-map, then-err, then-ok, told-all, told-map}
 use Rattle.amber_run.specs.Answering.{IsBrokenOff, IsUntouched, Works}
 use Rattle.amber_run.specs.Outcome.{AsksNoRun, Breaks, MissesWords, Runs, Stops, Succeeds, Worded, WroteNothing}
-use Rattle.amber_run.specs.Writing.{Counted, FailedAs}
-use Rattle.amber_run.proofs.Working.{keeps-same}
+use Rattle.amber_recorder.specs.Writing.{Counted, FailedAs}
+use Rattle.amber_recorder.proofs.Halting.{keeps-same}
 
 -- ---- the run
 

@@ -28,11 +28,12 @@ use Rattle.amber_laws.proofs.Schedules.{ends_reply_the_answer}
 use Rattle.amber_debug.specs.Session.{Session, command_of, is_long_item}
 use Rattle.amber_io.specs.World.{World}
 use Rattle.amber_run.specs.UnderWay.{EndsTorn, Halts, HasAnswer, HasText, IsAt, IsLeft, IsUnderWay, Leaves, Opens, Worked, log_of_items}
-use Rattle.amber_run.specs.RunTask.{AlterNothing, RunTask, end_alone, ends_long, most_steps, query_at}
+use Rattle.amber_run.specs.RunTask.{AlterNothing, RunTask, end_alone, most_steps, query_at}
+use Rattle.amber_recorder.specs.Left.{ends_long}
+use Rattle.amber_recorder.proofs.Halting.{ends_long-push, keeps-same, last-is}
 use Rattle.amber_course.specs.declared.failure.Failure.{Failure}
 use Rattle.amber_course.specs.declared.failure.Failure.TheVariants as failure
 use Rattle.amber_run.proofs.CountStops.{stop-for-counts}
-use Rattle.amber_run.proofs.Working.{ends_long-push, keeps-same, last-is}
 
 -- ---- the last item
 

@@ -14,7 +14,7 @@ use Rattle.amber_run.specs.Outcome.{Answers, AsksFor, Breaks, IsLongWhere, IsPri
 use Rattle.amber_run.specs.UnderWay.{IsDone, IsLeft}
 use Rattle.amber_course.specs.Failure.{status_of}
 use Rattle.amber_run.specs.RunTask.{run_task_of}
-use Rattle.amber_run.specs.Writing.{FailedAs}
+use Rattle.amber_recorder.specs.Writing.{FailedAs}
 use Rattle.amber_course.specs.declared.job.Job.{Job}
 use Rattle.amber_course.specs.declared.job.Job.TheVariants as job
 use Rattle.amber_course.specs.declared.job.RunJob.{RunJob}

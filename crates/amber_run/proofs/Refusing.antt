@@ -13,7 +13,7 @@ use Rattle.amber_course.specs.declared.status.Status.TheVariants as status
 use Rattle.amber_course.specs.declared.failure.Failure.{Failure}
 use Rattle.amber_course.specs.declared.failure.Failure.TheVariants as failure
 use Rattle.amber_run.specs.Outcome.{Ended, Stops}
-use Rattle.amber_run.specs.Writing.{FailedAs}
+use Rattle.amber_recorder.specs.Writing.{FailedAs}
 
 -- a call whose job or whose preparing failed: what it left before the line, and what has failed until then
 pub record HasStopped (words : List (List ℕ)) (s : Failure) (before mid : World) : Type 0 where

@@ -16,8 +16,8 @@ use Rattle.amber_run.specs.Answering.{Fails, IsAnswer, Works}
 use Rattle.amber_run.specs.Outcome.{WroteNothing}
 use Rattle.amber_run.specs.UnderWay.{Worked}
 use Rattle.amber_run.specs.RunTask.{run_task_of}
-use Rattle.amber_run.specs.Writing.{FailedAs}
-use Rattle.amber_run.proofs.Working.{keeps-same}
+use Rattle.amber_recorder.specs.Writing.{FailedAs}
+use Rattle.amber_recorder.proofs.Halting.{keeps-same}
 
 -- ---- how many rows there are
 

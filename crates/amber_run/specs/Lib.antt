@@ -4,4 +4,3 @@ pub mod CountStops
 pub mod Outcome
 pub mod RunTask
 pub mod UnderWay
-pub mod Writing

@@ -1,14 +1,13 @@
 -- What a run is to do.
-use Rattle.std.specs.Prelude.{◌≡◌, ℕ, ◌^◌, List, [], ◌∷◌, ◌++◌, map, Bool}
+use Rattle.std.specs.Prelude.{◌≡◌, ℕ, ◌^◌, List, [], ◌∷◌, ◌++◌, map}
 use Rattle.amber_io.specs.World.{World}
 use Rattle.amber_rows.specs.declared.flow.Operator.{Operator}
 use Rattle.amber_log.specs.declared.command.Command.{Command}
 use Rattle.amber_log.specs.declared.command.Command.TheVariants as command
-use Rattle.amber_log.specs.declared.log.Item.{Item}
 use Rattle.amber_log.specs.declared.log.Item.TheVariants as item
 use Rattle.amber_meaning.specs.Legal.{IsUnaltered, Query, query_over}
 use Rattle.amber_course.specs.declared.job.RunJob.{RunJob}
-use Rattle.amber_debug.specs.Session.{Session, is_long_item}
+use Rattle.amber_debug.specs.Session.{Session}
 
 -- what is fixed once nothing is left that refuses a run
 pub record RunTask : Type 0 where
@@ -45,11 +44,6 @@ pub record IsSession (t : RunTask) (d : Session) : Type 0 where
   pub flow : d.flow ≡ t.flow
   pub inputs : d.files ≡ t.inputs
   pub most : d.most ≡ most_steps
-
--- whether the last item is a leg that was closed because the steps were as many as may be; `long` where there is no item
-abbrev pub ends_long : Bool → List Item → Bool
-ends_long long [] = long
-ends_long long (one ∷ more) = ends_long (is_long_item one) more
 
 -- a run is to do the commands of its script, and then to go to the end
 abbrev pub run_task_of : World → RunJob → RunTask

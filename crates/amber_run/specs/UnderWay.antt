@@ -3,7 +3,6 @@ use Rattle.std.specs.Prelude.{◌≡◌, ◌≢◌, ℕ, ◌<◌, ◌≤◌, ◌
 use Rattle.std.specs.Io.KnownBytes.{Appends, Keeps}
 use Rattle.amber_io.specs.Folder.{with_file, without_file}
 use Rattle.amber_io.specs.World.{World}
-use Rattle.amber_log.specs.Grammar.{ends_over}
 use Rattle.amber_log.specs.LogText.{head_text, item_text, log_text}
 use Rattle.amber_log.specs.ReadAs.{IsReadAs}
 use Rattle.amber_log.specs.ReadLines.{empty_log}
@@ -21,7 +20,8 @@ use Rattle.amber_meaning.specs.Transcript.{replies, reply_of, transcript_of}
 use Rattle.amber_debug.specs.Session.{Session, command_of, one_more}
 use Rattle.amber_leg.specs.Leg.{most_late}
 use Rattle.amber_run.specs.CountStops.{StopForCounts}
-use Rattle.amber_run.specs.RunTask.{AlterNothing, IsSession, RunTask, ends_long, most_steps, query_at}
+use Rattle.amber_recorder.specs.Left.{ClosesAs, IsTorn, ends_long}
+use Rattle.amber_run.specs.RunTask.{AlterNothing, IsSession, RunTask, most_steps, query_at}
 use Rattle.amber_course.specs.declared.failure.Failure.{Failure}
 use Rattle.amber_course.specs.declared.failure.Failure.TheVariants as failure
 
@@ -30,10 +30,6 @@ use Rattle.amber_course.specs.declared.failure.Failure.TheVariants as failure
 -- the log of this batch size and these items
 abbrev pub log_of_items : ℕ → List Item → Log
 log_of_items batch_size items = record { batch = batch_size; items = items }
-
--- more may follow: the log's last item is none that nothing follows
-abbrev pub MayFollow : Log → Type 0
-MayFollow log = ends_over false log.items ≡ false
 
 -- the log's file holds the text of a legal log, whose legs stop in time, all other files are as before, and the sink got the log's
 -- transcript; `left` are the commands that are still to be done
@@ -73,10 +69,6 @@ pub record IsDone (t : RunTask) (world : World) : Type 0 where
 
 -- ---- what a failed write leaves of the log
 
--- a text whose end is missing: a front part of it, and not the whole
-abbrev pub IsTorn : List ℕ → List ℕ → Type 0
-IsTorn part whole = (rest : List ℕ) × (part ++ rest ≡ whole) × (rest ≢ [])
-
 -- an item by which the log may grow at a command: with it the log is legal, and it stops in time
 pub record IsItemFor (t : RunTask) (log : Log) (done : Command) (one : Item) : Type 0 where
   pub command : command_of one ≡ done
@@ -110,12 +102,6 @@ abbrev pub EndsTorn : RunTask → List Command → Log → List ℕ → Type 0
 EndsTorn t left log bytes = HasTornItem t left log bytes ⊎ HasTornHead t log bytes
 
 -- ---- a run that ended early
-
--- where the steps were as many as may be, that leg is the log's last item; where the sink failed, it was no such leg's reply
-abbrev pub ClosesAs : Failure → Bool → Type 0
-ClosesAs failure.Long long = long ≡ true
-ClosesAs failure.OutFault long = long ≡ false
-ClosesAs other long = ⊤
 
 -- the log's file reads as a legal log, whose legs stop in time and whose commands are the first of those to be done, and all other
 -- files are as before. The sink got the replies to all items, where that to the last may be missing, or cut if the sink failed

@@ -7,7 +7,7 @@ ghost use Rattle.amber_course.specs.Course.{IsReached};
 ghost use Rattle.amber_course.specs.Steps.{Names};
 ghost use Rattle.amber_course.specs.Words.{call_words_of};
 ghost use Rattle.amber_run.specs.Outcome.{Answered, AsksNoRun, Runs, Worded, WroteNothing};
-ghost use Rattle.amber_run.specs.Writing.{Counted};
+ghost use Rattle.amber_recorder.specs.Writing.{Counted};
 
 use crate::job::do_job;
 use crate::printed::Printed;

@@ -1,15 +1,15 @@
 //! What a job is: the answer of a workflow, printed at once, or a run.
-//! Rests on `do_plain` and on `Runner`.
+//! Rests on `do_plain` and on `do_run`.
 
 ghost use Rattle.std.specs.Prelude.{◌≡◌};
 ghost use Rattle.amber_course.specs.Ready.{IsReady, WritesNothing};
 ghost use Rattle.amber_run.specs.Answering.{Works};
 ghost use Rattle.amber_run.specs.Outcome.{WroteNothing};
-ghost use Rattle.amber_run.specs.Writing.{Counted};
+ghost use Rattle.amber_recorder.specs.Writing.{Counted};
 
 use crate::plain_job::do_plain;
-use crate::runner::Runner;
-use amber_course::{Failure, Job, RunJob};
+use crate::run_job::do_run;
+use amber_course::{Failure, Job};
 use amber_io::Outside;
 use amber_mail::Gate;
 use amber_rows::Rows;
@@ -33,16 +33,6 @@ pub(crate) fn do_job<R: Threads + Sync, G: Gate + Sync, W: Outside>(
 {
     match job {
         Job::Plain { inputs } => do_plain(alloc, inputs, outside),
-        Job::Run(run) => {
-            let RunJob {
-                inputs,
-                commands,
-                log,
-                threads,
-                batch_size,
-            } = run;
-            let mut runner = Runner::new(rt, alloc, log.get(), outside, gate);
-            runner.do_run(inputs, commands.get(), threads, batch_size)
-        }
+        Job::Run(run) => do_run(rt, alloc, run, outside, gate),
     }
 }

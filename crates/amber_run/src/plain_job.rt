@@ -5,7 +5,7 @@ ghost use Rattle.std.specs.Prelude.{◌≡◌, length, None};
 ghost use Rattle.amber_meaning.specs.Plain.{scan_count, wrong_header};
 ghost use Rattle.amber_run.specs.Answering.{IsAnswer, Works};
 ghost use Rattle.amber_run.specs.Outcome.{WroteNothing};
-ghost use Rattle.amber_run.specs.Writing.{Counted};
+ghost use Rattle.amber_recorder.specs.Writing.{Counted};
 
 use amber_course::{Failure, Inputs, Job, put_output};
 use amber_io::Outside;

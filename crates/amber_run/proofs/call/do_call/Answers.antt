@@ -1,7 +1,7 @@
 -- The words, the job, and what was done of it.
 use Rattle.std.proofs.Common.{◌≡◌, map, string_bytes, Err, subst, rules}
 use Rattle.amber_run.specs.Answering.{Works}
-use Rattle.amber_run.specs.Writing.{Counted}
+use Rattle.amber_recorder.specs.Writing.{Counted}
 use Rattle.amber_run.proofs.Ending.{run-failure, run-works}
 use Rattle.amber_run.proofs.call.do_call.Goals as goal
 
