@@ -2,10 +2,11 @@
 //! with the status as its exit code.
 #![tactic(auto)]
 
-use amber_io::{RealFolder, RealSink};
+use amber_io::RealFolder;
 use amber_mail::OpenGate;
 use amber_run::{Printed, Status, amber};
-use std::io::ErrorKind;
+use amber_terminal::{Screen, TerminalSink};
+use std::io::{ErrorKind, IsTerminal};
 use std::process::ExitCode;
 use std::rt::{Env, Files};
 use std::thread::Threads;
@@ -72,9 +73,10 @@ code, a word for what was refused, and then what it was, as in `error 4 read ord
 ";
 
 fn main(rt: HostRuntime) -> ExitCode {
+    let terminal = rt.stderr().is_terminal();
     match words(&rt) {
-        Ok(words) => ExitCode::from(answer(&rt, words.as_slice()).code()),
-        Err(error) => ExitCode::from(no_words(&rt, error.kind()).code()),
+        Ok(words) => ExitCode::from(answer(&rt, words.as_slice(), terminal).code()),
+        Err(error) => ExitCode::from(no_words(&rt, error.kind(), terminal).code()),
     }
 }
 
@@ -87,17 +89,19 @@ fn words<R: Env + AllocGlobal>(rt: &R) -> io::Result<Vec<String>> {
 fn no_words<R: Files + Print + Eprint + Threads + Sync + AllocGlobal>(
     rt: &R,
     kind: ErrorKind,
+    terminal: bool,
 ) -> Status {
     if kind == ErrorKind::OutOfMemory {
         let _ = rt.print("error 10 memory\n");
         return Status::NoMemory;
     }
-    call(rt, &[])
+    call(rt, &[], terminal)
 }
 
 fn answer<R: Files + Print + Eprint + Threads + Sync + AllocGlobal>(
     rt: &R,
     words: &[String],
+    terminal: bool,
 ) -> Status {
     if let [word] = words {
         match word.as_str() {
@@ -106,7 +110,7 @@ fn answer<R: Files + Print + Eprint + Threads + Sync + AllocGlobal>(
             _ => {}
         }
     }
-    call(rt, words)
+    call(rt, words, terminal)
 }
 
 fn show<R: Print>(rt: &R, text: &str) -> Status {
@@ -116,12 +120,15 @@ fn show<R: Print>(rt: &R, text: &str) -> Status {
     }
 }
 
+// The top call. At a terminal it is told on the standard error what a refusal means.
 fn call<R: Files + Print + Eprint + Threads + Sync + AllocGlobal>(
     rt: &R,
     words: &[String],
+    terminal: bool,
 ) -> Status {
+    let screen = Screen::new(rt, terminal, None);
     let mut folder = RealFolder::new(rt.alloc(), rt);
-    let mut out = RealSink::new(rt);
+    let mut out = TerminalSink::new(rt, &screen);
     let mut printed = Printed::new();
     let status = amber(
         rt,
