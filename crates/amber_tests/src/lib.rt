@@ -39,4 +39,8 @@ mod scans;
 #[cfg(test)]
 mod script;
 #[cfg(test)]
+mod session;
+#[cfg(test)]
+mod sources;
+#[cfg(test)]
 mod written;

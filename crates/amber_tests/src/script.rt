@@ -1,11 +1,11 @@
-//! A script that is read, and one whose third line is bad. Tests `amber_script`.
+//! A script that is read, one whose third line is bad, and single lines. Tests `amber_script`.
 
 use crate::expected::expect_text;
 use amber_flow::read_flow;
 use amber_log::{Command, Commands};
 use amber_report::ok_line;
 use amber_rows::Flow;
-use amber_script::{ScriptErr, read_script};
+use amber_script::{ScriptErr, ScriptLine, read_line, read_script};
 use std::alloc::{AllocError, Global};
 use std::test::Fail;
 
@@ -56,4 +56,29 @@ fn a_script_is_read(rt: HostRuntime) -> Result<(), Fail> {
 #[test]
 fn a_bad_line_is_named(rt: HostRuntime) -> Result<(), Fail> {
     expect_text(read(rt.alloc(), "run\n\npause s 0\nend")?, "line 3: Kind")
+}
+
+// What a line says under the workflow.
+fn said(alloc: Global, line: &str) -> Result<String, Fail> {
+    let flow = read_flow(alloc, WORKFLOW.as_bytes())?;
+    match read_line(alloc, line.as_bytes(), &flow)? {
+        ScriptLine::Skipped => Ok(String::from_str(alloc, "skipped")?),
+        ScriptLine::Command(command) => Ok(told(alloc, &flow, &[command])?),
+        ScriptLine::Bad(why) => Ok(why.to_string(alloc)?),
+    }
+}
+
+#[test]
+fn a_line_says_a_command(rt: HostRuntime) -> Result<(), Fail> {
+    expect_text(said(rt.alloc(), " pause \"f\" 2\r")?, "ok pause f 2\n")
+}
+
+#[test]
+fn a_comment_says_nothing(rt: HostRuntime) -> Result<(), Fail> {
+    expect_text(said(rt.alloc(), "\t# run")?, "skipped")
+}
+
+#[test]
+fn a_bad_line_says_its_reason(rt: HostRuntime) -> Result<(), Fail> {
+    expect_text(said(rt.alloc(), "pause s 0")?, "Kind")
 }
