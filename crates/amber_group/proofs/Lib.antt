@@ -5,3 +5,4 @@ pub mod GroupTables
 pub mod Stepping
 pub mod Settling
 pub mod Within
+pub mod SeveralRows

@@ -29,6 +29,13 @@ pub record FeedsRow (row : List Value) (old new : Group) : Type 0 where
   pub fed : new.fed ≡ old.fed + 1
   pub stands : (rows : List (List Value)) → IsFedWith old rows → IsFedWith new (rows ++ row ∷ [])
 
+-- the same of several rows, one after the other
+pub record FeedsRows (rows : List (List Value)) (old new : Group) : Type 0 where
+  pub keys : new.keys ≡ old.keys
+  pub aggs : new.aggs ≡ old.aggs
+  pub fed : new.fed ≡ old.fed + length rows
+  pub stands : (before : List (List Value)) → IsFedWith old before → IsFedWith new (before ++ rows)
+
 -- the rows of all groups, whatever rows the state was fed
 abbrev pub AreRowsOf : Group → List (List Value) → Type 0
 AreRowsOf state made = (rows : List (List Value)) → IsFedWith state rows → made ≡ group_result state.keys state.aggs rows

@@ -1,5 +1,6 @@
 pub mod Finished
 pub mod Group
+pub mod Feeding
 pub mod Running
 pub mod Steps
 pub mod Taking

@@ -1,5 +1,5 @@
 -- How the row that was taken in last is taken out again.
-use Rattle.std.specs.Prelude.{◌≡◌, ◌-◌, ◌<◌, List, Option, Some, None, IsSome, length, take}
+use Rattle.std.specs.Prelude.{◌≡◌, ◌-◌, ◌<◌, List, [], ◌∷◌, Option, Some, None, IsSome, length, take}
 use Rattle.std.specs.Map.{lookup}
 use Rattle.amber_rows.specs.Operators.{same_row}
 use Rattle.amber_rows.specs.declared.value.Value.{Value}
@@ -41,3 +41,20 @@ pub record CanUndo (before : Before) (state : Group) : Type 0 where
 pub record TakesBack (before : Before) (old new : Group) : Type 0 where
   pub can : CanUndo before new
   pub back : restored before new ≡ old
+
+-- ---- several rows
+
+-- the state before some rows came: the row that came last is taken out first
+unfoldable pub restored_all : List Before → Group → Group
+restored_all [] state = state
+restored_all (before ∷ later) state = restored before (restored_all later state)
+
+-- these rows can be taken out, the last one first
+unfoldable pub CanUndoAll : List Before → Group → Type 0
+CanUndoAll [] state = Unit {0}
+CanUndoAll (before ∷ later) state = CanUndoAll later state × CanUndo before (restored_all later state)
+
+-- taking the rows out leads from the new state back to the old one
+pub record TakeAllBack (befores : List Before) (old new : Group) : Type 0 where
+  pub can : CanUndoAll befores new
+  pub back : restored_all befores new ≡ old

@@ -1,3 +1,4 @@
 pub mod Examples
 pub mod ForgottenPlaces
+pub mod MovedRows
 pub mod PlaceTables

@@ -1,5 +1,5 @@
 -- The ends that one worker holds: of those that send to it, and of those to which it sends.
-use Rattle.std.specs.Prelude.{◌≡◌, ℕ, ◌+◌, ◌<◌, ◌&&◌, ◌||◌, ◌⊎◌, not, List, [], ◌∷◌, ◌++◌, length, slice_index_or, slice_set, Bool, true, false}
+use Rattle.std.specs.Prelude.{◌≡◌, ℕ, ◌+◌, ◌<◌, ◌==◌, ◌&&◌, ◌||◌, ◌⊎◌, not, List, [], ◌∷◌, ◌++◌, length, slice_index_or, slice_set, Bool, true, false}
 use Rattle.std.specs.List.{list_all}
 use Rattle.rtrb.specs.Ring.{known_free}
 use Rattle.amber_rows.specs.declared.value.Value.{Value}
@@ -21,6 +21,10 @@ Pairwise R (x ∷ xs) (y ∷ ys) = R x y × Pairwise R xs ys
 -- a batch of this sender may be taken, where the build side has ended or not
 abbrev pub may_come : Bool → Upstream → Bool
 may_come built one = (not one.ended && (one.builds || built)) && has_some (waiting one.link)
+
+-- the batch with this number of this sender comes next, and may be taken
+abbrev pub comes_next : Bool → ℕ → ℕ → Upstream → Bool
+comes_next built from number one = ((one.from == from) && (one.taken == number)) && may_come built one
 
 -- the last batches of all senders of the build side were taken
 abbrev pub have_builders_ended : List Upstream → Bool

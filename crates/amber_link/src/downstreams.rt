@@ -1,6 +1,6 @@
 //! The workers to which one worker sends, each with its end of the link. Rests on `Out` of `ends`.
 
-ghost use Rattle.std.specs.Prelude.{◌≡◌, ◌==◌, ◌+◌, ◌^◌, ◌<◌, ◌≤◌, ℕ, Bool, All, true, false, length, map, slice_index_or, take, IfNone, IfSome, OnErr, OnOk};
+ghost use Rattle.std.specs.Prelude.{◌≡◌, ◌≢◌, ◌==◌, ◌+◌, ◌^◌, ◌<◌, ◌≤◌, ℕ, Bool, All, true, false, length, map, slice_index_or, take, IfNone, IfSome, OnErr, OnOk};
 ghost use Rattle.std.specs.List.{list_any};
 ghost use Rattle.amber_link.specs.Links.{has_some};
 ghost use Rattle.amber_link.specs.Sides.{AreEnded, CanSendNoMore, HandsOn, HaveSentOn, without_room};
@@ -105,8 +105,42 @@ pub fn push_at(outs: &mut [Downstream], place: usize, row: Row)
     ensures open { All (λ one. one.link.kept.ended ≡ false) outs.new }
     ensures few { (n : ℕ) → All (λ one. one.link.kept.made ≤ n) outs.old
         → All (λ one. one.link.kept.made ≤ n + 1) outs.new }
+    ensures room { (n : ℕ) → All (λ one. n + 1 < one.link.kept.room) outs.old
+        → All (λ one. n < one.link.kept.room) outs.new }
+    ensures others { (k : ℕ) (d : OneDownstream) → k ≢ place
+        → slice_index_or outs.new k d ≡ slice_index_or outs.old k d }
+    ensures less { (d : OneDownstream) → (slice_index_or outs.old place d).link.kept.room
+        ≡ (slice_index_or outs.new place d).link.kept.room + 1 }
 {
     outs[place].link.push_reserved(row);
+}
+
+/// Makes room for so many rows and the end, for each receiver.
+pub fn reserve_rows(outs: &mut [Downstream], rows: u64) -> Result<(), AllocError>
+    requires open { All (λ one. one.link.kept.ended ≡ false) outs.old }
+    ensures same { map without_room outs.new ≡ map without_room outs.old }
+    ensures open { All (λ one. one.link.kept.ended ≡ false) outs.new }
+    ensures ok { OnOk result (All (λ one. rows < one.link.kept.room) outs.new) }
+{
+    for one in outs.iter_mut() {
+        one.link.reserve(rows)?;
+    }
+    Ok(())
+}
+
+/// Makes room for as many rows and the end, for each receiver, as stand at its place.
+pub fn reserve_each(outs: &mut [Downstream], rows: &[u64]) -> Result<(), AllocError>
+    requires one_each { length rows.now ≡ length outs.old }
+    requires open { All (λ one. one.link.kept.ended ≡ false) outs.old }
+    ensures same { map without_room outs.new ≡ map without_room outs.old }
+    ensures open { All (λ one. one.link.kept.ended ≡ false) outs.new }
+    ensures ok { OnOk result ((k : ℕ) (d : OneDownstream) → k < length rows.now
+        → slice_index_or rows.now k 0 < (slice_index_or outs.new k d).link.kept.room) }
+{
+    for (i, one) in outs.iter_mut().enumerate() {
+        one.link.reserve(rows[i])?;
+    }
+    Ok(())
 }
 
 /// Makes room for the end of all streams.

@@ -26,13 +26,14 @@ pub mod settling_places;
 pub mod upstreams;
 
 pub use downstreams::{
-    Downstream, end_all, has_receiver, place_to, push_at, reserve_at, reserve_ends, send_all,
-    take_back, trade_back, waiting_at,
+    Downstream, end_all, has_receiver, place_to, push_at, reserve_at, reserve_each, reserve_ends,
+    reserve_rows, send_all, take_back, trade_back, waiting_at,
 };
 pub use ends::{In, Out, Sent, link, settle};
 pub use outbox::Outbox;
 pub use settling_places::settle_at;
 pub use std::alloc::AllocError as NoMemory;
 pub use upstreams::{
-    Found, Upstream, give_back, have_built, have_ended, is_empty_at, place_of, ready_place, take_at,
+    Found, Upstream, give_back, have_built, have_ended, is_empty_at, next_place, place_of,
+    ready_place, take_at,
 };

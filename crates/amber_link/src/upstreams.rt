@@ -3,7 +3,7 @@
 ghost use Rattle.std.specs.Prelude.{◌≡◌, ◌≢◌, ◌==◌, ◌+◌, ◌^◌, ◌<◌, ◌≤◌, ◌∷◌, [], ℕ, All, true, false, length, slice_index_or, take, IfNone, IfSome};
 ghost use Rattle.std.specs.List.{list_any};
 ghost use Rattle.amber_link.specs.Links.{GivesBatches, has_some, starts_empty, waiting};
-ghost use Rattle.amber_link.specs.Sides.{AreLooked, IsLooked, IsTaken, have_all_ended, have_builders_ended, may_come};
+ghost use Rattle.amber_link.specs.Sides.{AreLooked, IsLooked, IsTaken, comes_next, have_all_ended, have_builders_ended, may_come};
 ghost use Rattle.amber_link.specs.declared.upstreams.Upstream.{Upstream as OneUpstream};
 
 use crate::ends::In;
@@ -79,6 +79,18 @@ impl Upstream {
         self.link.look()
     }
 
+    // Whether it is the sender with this number, and this is the number of its next batch, which may be taken, where the
+    // build side has ended or not. Nothing is taken, but more batches may be known than before.
+    fn comes_next(&mut self, built: bool, from: u32, number: u64) -> bool
+        ensures looked { IsLooked self.old self.new }
+        ensures next { result ≡ comes_next built from number self.new }
+    {
+        if self.from != from || self.taken != number {
+            return false;
+        }
+        self.is_ready(built)
+    }
+
     // Takes the first batch that waits.
     fn take(&mut self) -> Batch
         requires waits { has_some (waiting self.old.link) ≡ true }
@@ -139,6 +151,23 @@ pub fn ready_place(ins: &mut [Upstream], built: bool) -> Option<usize>
 {
     for i in 0..ins.len() {
         if ins[i].is_ready(built) {
+            return Some(i);
+        }
+    }
+    None
+}
+
+/// The place of the sender with this number, where this is the number of its next batch and that may be taken. Nothing
+/// is taken, but more batches may be known than before.
+pub fn next_place(ins: &mut [Upstream], from: u32, number: u64, built: bool) -> Option<usize>
+    ensures looked { AreLooked ins.old ins.new }
+    ensures none { IfNone result (list_any (comes_next built from number) ins.new ≡ false) }
+    ensures there { IfSome result (λ i. i < length ins.new) }
+    ensures next { IfSome result (λ i. (d : OneUpstream)
+        → comes_next built from number (slice_index_or ins.new i d) ≡ true) }
+{
+    for i in 0..ins.len() {
+        if ins[i].comes_next(built, from, number) {
             return Some(i);
         }
     }

@@ -6,8 +6,8 @@
 //! worker takes it, or when it reads it ahead. A record that is no row goes along with its fault, so that no number is
 //! missing.
 //!
-//! Typing takes memory. Where it is wanting nothing is taken, and the share stays as it was. What was read ahead is
-//! taken without memory.
+//! Typing takes memory. Where it is wanting nothing is taken, and the share stays as it was. What was read ahead can be
+//! looked at while it is left, and is taken without memory.
 //!
 //! An example: a file with the column `n` of numbers and the records `7`, `x`, `8`, of two workers. The share of the
 //! first has record 1, the row of 7, and record 3, the row of 8. That of the second has record 2, the fault that its

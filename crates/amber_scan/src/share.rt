@@ -6,6 +6,7 @@ ghost use Rattle.amber_rows.specs.Lists.{is_empty};
 ghost use Rattle.amber_rows.specs.Record.{row_of};
 ghost use Rattle.amber_rows.specs.Shares.{share_of};
 ghost use Rattle.amber_scan.specs.Shares.{Suits, scanned_number, scanned_of, scanned_record};
+ghost use Rattle.amber_scan.specs.declared.share.Scanned.{Scanned as OneScanned};
 
 use amber_cut::Records;
 use amber_rows::{Row, RowFault, Schema, Value};
@@ -215,6 +216,28 @@ impl Share {
             }
         }
         Ok(())
+    }
+
+    /// The record at a place, from 0, of those that were read ahead. It is not taken.
+    pub fn at(&self, place: usize) -> &Scanned
+        requires { place < self.now.ready }
+        ensures { (d : OneScanned) → result.now ≡ slice_index_or self.now.left place d }
+    {
+        &self.ahead[place]
+    }
+
+    /// Takes the first record that is left, which was read ahead. It takes no memory.
+    pub fn take_ready(&mut self) -> Scanned
+        requires { 0 < self.old.ready }
+        ensures took { self.old.left ≡ result ∷ self.new.left }
+        ensures suits { Suits self.old.columns result.what }
+        ensures columns { self.new.columns ≡ self.old.columns }
+        ensures ready { self.new.ready ≡ self.old.ready - 1 }
+    {
+        let Some(one) = self.ahead.pop_front() else {
+            unreachable!()
+        };
+        one
     }
 
     /// Whether no record is left.

@@ -1,7 +1,7 @@
 //! The states of groups. Tests `amber_group`.
 
-use crate::expected::expect_rows;
-use crate::written::{cols, row, rows};
+use crate::expected::{expect_rows, expect_text};
+use crate::written::{cols, row, rows, rows_text, two_columns};
 use amber_group::GroupState;
 use amber_rows::{Agg, Aggs, NoMemory, Row};
 use std::alloc::Global;
@@ -158,4 +158,36 @@ fn a_row_that_is_taken_out_leaves_no_trace(rt: HostRuntime) -> Result<(), Fail> 
         expect_group(alloc, &state, case)?;
     }
     Ok(())
+}
+
+// The rows that a group gives, as a text.
+fn given(alloc: Global, state: &GroupState) -> Result<String, NoMemory> {
+    let found = state.finish(alloc)?;
+    rows_text(alloc, found.rows.get())
+}
+
+// What a group gives with all of these rows that suit two columns. They are taken out again.
+fn given_with(alloc: Global, state: &mut GroupState, written: &str) -> Result<String, NoMemory> {
+    let columns = two_columns(alloc)?;
+    let more = VecDeque::from_vec(rows(alloc, written)?);
+    let count = more.len();
+    if state.fed() > 1 << 39 || count > 1 << 39 {
+        return Err(NoMemory);
+    }
+    let taken = state.take_all(alloc, &more, count, &columns)?;
+    let text = given(alloc, state);
+    state.undo_all(taken);
+    text
+}
+
+#[test]
+fn rows_that_were_taken_in_are_taken_out(rt: HostRuntime) -> Result<(), Fail> {
+    let alloc = rt.alloc();
+    let aggs = Aggs::new(Vec::from_slice(alloc, &[Agg::Count, Agg::Sum(1)])?);
+    let mut state = GroupState::new(alloc, cols(alloc, &[2])?, aggs);
+    feed(alloc, &mut state, "5 'a")?;
+    // The third row does not suit.
+    let with = given_with(alloc, &mut state, "1 'b / 2 'a / 'x 'a / 4 'b")?;
+    expect_text(with, "'a 2 7 / 'b 2 5 / ")?;
+    expect_text(given(alloc, &state)?, "'a 1 5 / ")
 }

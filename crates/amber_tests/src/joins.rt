@@ -3,10 +3,11 @@
 ghost use Rattle.std.specs.Prelude.{◌≡◌, false, true, IfOk};
 
 use crate::expected::expect_text;
-use crate::written::{cols, row, row_text, rows, rows_text};
-use amber_join::{JoinState, NoMemory};
+use crate::written::{cols, row, row_text, rows, rows_text, two_columns};
+use amber_join::{JoinState, NoMemory, stage_all, unstage_all};
 use amber_rows::Row;
 use std::alloc::Global;
+use std::collections::VecDeque;
 use std::test::Fail;
 
 // Feeds a join build rows.
@@ -151,4 +152,37 @@ fn a_staged_row_comes_back(rt: HostRuntime) -> Result<(), Fail> {
         expect_text(found, "7 7 'x / ")?;
     }
     Ok(())
+}
+
+// How many rows a join has, and how many are left, once it has the first of them that suit two columns. They go back.
+fn stage_first(
+    alloc: Global,
+    state: &mut JoinState,
+    left: &mut VecDeque<Row>,
+    count: usize,
+) -> Result<(u64, usize), NoMemory>
+    requires unsealed { state.old.sealed ≡ false }
+{
+    let columns = two_columns(alloc)?;
+    if count > left.len() {
+        return Err(NoMemory);
+    }
+    let moved = stage_all(alloc, state, left, count, &columns)?;
+    let found = (state.rows(), left.len());
+    unstage_all(state, left, moved);
+    Ok(found)
+}
+
+#[test]
+fn rows_that_were_staged_go_back_to_the_front(rt: HostRuntime) -> Result<(), Fail> {
+    let alloc = rt.alloc();
+    let mut state = JoinState::new(alloc, cols(alloc, &[1])?, cols(alloc, &[1])?);
+    build_all(alloc, &mut state, "7 'x /")?;
+    let mut left = VecDeque::from_vec(rows(alloc, "1 'a / 'no 'b / 2 'c / 3 'd /")?);
+    // The second row does not suit.
+    let (kept, behind) = stage_first(alloc, &mut state, &mut left, 3)?;
+    assert!(rt; kept == 3 && behind == 1);
+    assert!(rt; state.rows() == 1 && state.keys() == 1);
+    let back = Vec::from_iter(alloc, left)?;
+    expect_text(rows_text(alloc, &back)?, "1 'a / 'no 'b / 2 'c / 3 'd / ")
 }

@@ -187,3 +187,35 @@ fn a_record_typed_over_another_row_is_typed_as_anew(rt: HostRuntime) -> Result<(
     }
     Ok(())
 }
+
+// The second record of a share, and then each record, of which the first two were read ahead.
+fn looked_ahead(alloc: Global, share: &mut Share) -> Result<String, NoMemory> {
+    let mut text = String::new(alloc);
+    share.read_ahead(2)?;
+    if share.left() < 2 {
+        return Err(NoMemory);
+    }
+    append_record(alloc, &mut text, share.at(1))?;
+    append_record(alloc, &mut text, &share.take_ready())?;
+    append_record(alloc, &mut text, &share.take_ready())?;
+    append_next(alloc, &mut text, share)?;
+    Ok(text)
+}
+
+#[test]
+fn records_that_were_read_ahead_are_looked_at_and_taken(rt: HostRuntime) -> Result<(), Fail> {
+    let alloc = rt.alloc();
+    let schema = two_columns(alloc)?;
+    let Ok(shares) = deal(&rt, alloc, &file_of(alloc, SEVEN)?, &schema, 2, 2) else {
+        return Err(Fail::from(NoMemory));
+    };
+    let mut text = String::new(alloc);
+    for mut share in shares {
+        text.push_str(&looked_ahead(alloc, &mut share)?)?;
+        text.push_str("| ")?;
+    }
+    expect_text(
+        text,
+        "3: 3 'c ; 1: 1 'a ; 3: 3 'c ; 5: 5 'e,e ; | 4: width ; 2: int 1 ; 4: width ; 6: 6 'f ; | ",
+    )
+}
