@@ -21,14 +21,14 @@ use Rattle.amber_worker.proofs.Moves.{HasUnit, IsWorking, all-ended, free-shown,
 -- ---- a row is emitted
 
 -- nothing is at its end that works
-open-outs : (context : Context) (w : WorkerState) (p : Position) → Shows context w p → IsWorking w
+pub open-outs : (context : Context) (w : WorkerState) (p : Position) → Shows context w p → IsWorking w
     → SendAll context.placement context.placement.receivers (unended (emitted_rows context.placement.role p) context.base.gave) w.outs
 open-outs context w p shows works =
     let open_still : p.finished ≡ false = sym shows.finished ∙ works.unfinished in
     let P : Bool → Type 0 = λ ended. SendAll context.placement context.placement.receivers (record (output_at context p) { ended = ended }) w.outs in
     subst P open_still shows.outs
 
-may-emit_row : (context : Context) (w : WorkerState) (p : Position) (row : List Value) (later : List (List Value))
+pub may-emit_row : (context : Context) (w : WorkerState) (p : Position) (row : List Value) (later : List (List Value))
     → Shows context w p → w.pending ≡ row ∷ later → IsWorking w → HasUnit context.orders.counted w → lets_by w row ≡ true → MayGo (assigned context.placement.role context.orders) p 0 1
 may-emit_row context w p row later shows pending works unit by_it =
     let produced = left-within (length p.outcomes) (product context.placement.role p.taken p.constants) row later (sym shows.pending ∙ pending) in
@@ -50,7 +50,7 @@ may-emit_row context w p row later shows pending works unit by_it =
           subst (λ l. pass_by context.orders.when p.restraint.waved (take 1 l) ≡ true) (sym first) passed;
     }
 
-shows-row_emitted : (counted : Bool) (context : Context) (w : WorkerState) (p : Position) (row : List Value) (later : List (List Value)) (outs : List Downstream)
+pub shows-row_emitted : (counted : Bool) (context : Context) (w : WorkerState) (p : Position) (row : List Value) (later : List (List Value)) (outs : List Downstream)
     → context.orders.counted ≡ counted → Shows context w p → w.pending ≡ row ∷ later → IsHandedOn (number_to w.route row) row w.outs outs → IsWorking w
     → Shows context (row_emitted counted later outs w) (with_rows context.orders 0 1 p)
 shows-row_emitted counted context w p row later outs armed shows pending handed works =
@@ -104,47 +104,54 @@ Keeps-row_emitted counted w row later outs pending handed works unit by_it conte
 
 -- ---- the end
 
+pub may-finish : (context : Context) (w : WorkerState) (p : Position) → Shows context w p → w.rest ≡ [] → w.pending ≡ [] → have_all_ended w.ins ≡ true → IsWorking w
+    → MayFinish context.placement.role p
+may-finish context w p shows rest pending ended works = record {
+  free = free-shown context w p shows works;
+  no_rest = sym shows.rest ∙ rest;
+  no_pending = sym shows.pending ∙ pending;
+  ended = sym (all-ended context.placement.role.senders context.base.had p.taken w.ins shows.ins) ∙ ended;
+}
+
+pub shows-all_done : (context : Context) (w : WorkerState) (p : Position) (outs : List Downstream) → Shows context w p → AreEnded w.outs outs → IsWorking w
+    → Shows context (all_done outs w) (record p { finished = true })
+shows-all_done context w p outs shows ends works = record {
+  op = shows.op;
+  number = shows.number;
+  operator_state = shows.operator_state;
+  state = shows.state;
+  columns = shows.columns;
+  build_columns = shows.build_columns;
+  sides = shows.sides;
+  builders = shows.builders;
+  building = shows.building;
+  when = shows.when;
+  rest = shows.rest;
+  pending = shows.pending;
+  taken = shows.taken;
+  emitted = shows.emitted;
+  batches = shows.batches;
+  within = shows.within;
+  produced = shows.produced;
+  refused = shows.refused;
+  kept = shows.kept;
+  restraint = shows.restraint;
+  finished = refl;
+  ins = shows.ins;
+  outs = send_all-end context.placement context.placement.receivers (emitted_rows context.placement.role p) context.base.gave w.outs outs (open-outs context w p shows works) ends;
+  route = shows.route;
+}
+
 -- wherever a worker stood, it stands once it finished
 pub Keeps-all_done : (counted : Bool) (w : WorkerState) (outs : List Downstream) → w.rest ≡ [] → w.pending ≡ [] → have_all_ended w.ins ≡ true → AreEnded w.outs outs → IsWorking w
     → KeepsUnder counted w (all_done outs w)
 unfolding KeepsUnder
-Keeps-all_done counted w outs rest pending ended ends works context start p armed stands =
-    let shows = stands.shows in
-    let may : MayFinish context.placement.role p = record {
-      free = free-shown context w p shows works;
-      no_rest = sym shows.rest ∙ rest;
-      no_pending = sym shows.pending ∙ pending;
-      ended = sym (all-ended context.placement.role.senders context.base.had p.taken w.ins shows.ins) ∙ ended;
-    } in (
-      record p { finished = true },
-      record {
-        leads = Leads-push context.placement.role context.orders start w.journal p entry.Finish (record p { finished = true }) stands.leads (no_batch, may, refl);
-        text = AreEntries-push false w.journal entry.Finish stands.text tt refl;
-        shows = record {
-          op = shows.op;
-          number = shows.number;
-          operator_state = shows.operator_state;
-          state = shows.state;
-          columns = shows.columns;
-          build_columns = shows.build_columns;
-          sides = shows.sides;
-          builders = shows.builders;
-          building = shows.building;
-          when = shows.when;
-          rest = shows.rest;
-          pending = shows.pending;
-          taken = shows.taken;
-          emitted = shows.emitted;
-          batches = shows.batches;
-          within = shows.within;
-          produced = shows.produced;
-          refused = shows.refused;
-          kept = shows.kept;
-          restraint = shows.restraint;
-          finished = refl;
-          ins = shows.ins;
-          outs = send_all-end context.placement context.placement.receivers (emitted_rows context.placement.role p) context.base.gave w.outs outs (open-outs context w p shows works) ends;
-          route = shows.route;
-        };
-      },
-    )
+Keeps-all_done counted w outs rest pending ended ends works context start p armed stands = (
+  record p { finished = true },
+  record {
+    leads = Leads-push context.placement.role context.orders start w.journal p entry.Finish (record p { finished = true }) stands.leads
+        (no_batch, may-finish context w p stands.shows rest pending ended works, refl);
+    text = AreEntries-push false w.journal entry.Finish stands.text tt refl;
+    shows = shows-all_done context w p outs stands.shows ends works;
+  },
+)

@@ -247,7 +247,7 @@ same-hand : (b : Bool) (hand : ℕ) → cond b (hand - 0) hand ≡ hand
 same-hand true hand = omega arith
 same-hand false hand = refl
 
-used-none : (counted : Bool) (r : Restraint) → restraint_used counted 0 r ≡ r
+pub used-none : (counted : Bool) (r : Restraint) → restraint_used counted 0 r ≡ r
 used-none counted r = λ i. record r { hand = same-hand counted r.hand i; waved = both_true r.waved i }
 
 shows-row_taken : (context : Context) (w : WorkerState) (p : Position) (one : Arrival) (later : List Arrival) (now : OperatorState) (last : List (List Value))

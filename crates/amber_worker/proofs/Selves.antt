@@ -60,7 +60,7 @@ mine-counted (Some seat) now armed counts = ap mine_in counts.1 ∙ ap (λ (v : 
 
 -- ---- constants
 
-becomes-constants : (d now : OperatorState) (builds : Bool) (found : Option (List Value)) → Becomes d builds found now → constants_in now ≡ constants_in d
+pub becomes-constants : (d now : OperatorState) (builds : Bool) (found : Option (List Value)) → Becomes d builds found now → constants_in now ≡ constants_in d
 becomes-constants operator_state.Scan now builds found is = ap constants_in is
 becomes-constants (operator_state.Filter cond) now builds found is = ap constants_in is
 becomes-constants (operator_state.Project from) now builds found is = ap constants_in is
@@ -68,7 +68,7 @@ becomes-constants (operator_state.Join state) now builds found is = ap constants
 becomes-constants (operator_state.Group state) now builds found is = ap constants_in is.1
 becomes-constants operator_state.Sink now builds found is = ap constants_in is
 
-turned-constants : (builds : Bool) (d : OperatorState) → constants_in (turned_to builds d) ≡ constants_in d
+pub turned-constants : (builds : Bool) (d : OperatorState) → constants_in (turned_to builds d) ≡ constants_in d
 turned-constants builds operator_state.Scan = refl
 turned-constants builds (operator_state.Filter cond) = refl
 turned-constants builds (operator_state.Project from) = refl

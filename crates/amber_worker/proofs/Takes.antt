@@ -21,7 +21,7 @@ use Rattle.amber_link.specs.Sides.{AreLooked, IsTaken, have_all_ended, have_buil
 use Rattle.amber_worker.proofs.Settling.{Shows-relinked}
 use Rattle.amber_link.specs.declared.upstreams.Upstream.{Upstream}
 use Rattle.amber_worker.specs.Fields.{row_from}
-use Rattle.amber_worker.specs.AtPosition.{Context, DoesKind, KeepsUnder, ReceiveAll, Shows}
+use Rattle.amber_worker.specs.AtPosition.{Context, DoesKind, IsAtPosition, KeepsUnder, ReceiveAll, Shows}
 use Rattle.amber_worker.specs.WorkerState.{WorkerState}
 use Rattle.amber_worker.specs.Steps.{Closes, batch_taken}
 use Rattle.amber_worker.specs.declared.operator_state.OperatorState.{OperatorState}
@@ -139,11 +139,11 @@ unended-there front back one unended = by (have_all_ended (front ++ one ∷ back
         absurd (false≢true (sym unended ∙ here.0))
 
 -- the facts of a batch that is taken
-record TakesOne (w : WorkerState) (one : Upstream) (batch : Batch) (ins : List Upstream) (last : List (List Value)) : Type 0 where
-  rest : w.rest ≡ []
-  pending : w.pending ≡ []
-  taken_so : IsTaken w.ins one batch ins
-  closes : Closes w.operator_state (eqb (length batch.rows) 0 && have_all_ended ins) last
+pub record TakesOne (w : WorkerState) (one : Upstream) (batch : Batch) (ins : List Upstream) (last : List (List Value)) : Type 0 where
+  pub rest : w.rest ≡ []
+  pub pending : w.pending ≡ []
+  pub taken_so : IsTaken w.ins one batch ins
+  pub closes : Closes w.operator_state (eqb (length batch.rows) 0 && have_all_ended ins) last
 
 received-all : (context : Context) (w : WorkerState) (p : Position) (one : Upstream) (batch : Batch) (ins : List Upstream) (last : List (List Value))
     → Shows context w p → (takes : TakesOne w one batch ins last) → ReceiveAll context.placement.role.senders context.base.had p.taken (takes.taken_so.front ++ one ∷ takes.taken_so.back)
@@ -155,7 +155,7 @@ own-side context w p one batch ins last shows takes =
     let so = takes.taken_so in
     side-there context.placement.role.task so.front so.back one (rw so.found at shows.sides)
 
-may-take : (context : Context) (w : WorkerState) (p : Position) (one : Upstream) (batch : Batch) (ins : List Upstream) (last : List (List Value))
+pub may-take : (context : Context) (w : WorkerState) (p : Position) (one : Upstream) (batch : Batch) (ins : List Upstream) (last : List (List Value))
     → Shows context w p → TakesOne w one batch ins last → IsWorking w → MayTake context.placement.role p one.from one.taken
 may-take context w p one batch ins last shows takes works =
     let so = takes.taken_so in
@@ -258,7 +258,7 @@ product-now context w p one batch ins last shows takes =
     then closing context.placement.role.task (all_arrivals context.placement.role (p.taken ++ as_taken one.from batch ∷ [])) else [])) same
     ∙ ap (λ rows. product context.placement.role p.taken p.constants ++ rows) (sym (last-is context w p one batch ins last shows takes))
 
-shows-batch_taken : (context : Context) (w : WorkerState) (p : Position) (one : Upstream) (batch : Batch) (ins : List Upstream) (last : List (List Value))
+pub shows-batch_taken : (context : Context) (w : WorkerState) (p : Position) (one : Upstream) (batch : Batch) (ins : List Upstream) (last : List (List Value))
     → Shows context w p → TakesOne w one batch ins last → Shows context (batch_taken one batch ins last w) (with_batch one.from batch p)
 shows-batch_taken context w p one batch ins last shows takes =
     let so = takes.taken_so in
@@ -315,15 +315,23 @@ Keeps-batch_taken w one batch ins last rest pending so few small closes works co
       },
     )
 
+-- a look for batches changes nothing of what a worker shows
+pub shows-looked : (context : Context) (w : WorkerState) (found : List Upstream) (p : Position) → AreLooked w.ins found → Shows context w p
+    → Shows context (record w { ins = found }) p
+shows-looked context w found p looked shows =
+    Shows-relinked context w p found w.outs w.journal shows
+    (receive_all-looked context.base.had p.taken context.placement.role.senders w.ins found looked shows.ins) (sides-looked context.placement.role.task w.ins found looked shows.sides) shows.outs
+
+-- a look for batches changes nothing of where a worker stands
+pub stands-looked : (context : Context) (w : WorkerState) (found : List Upstream) (start p : Position) → AreLooked w.ins found → IsAtPosition context w start p
+    → IsAtPosition context (record w { ins = found }) start p
+stands-looked context w found start p looked stands = record {
+  leads = stands.leads;
+  text = stands.text;
+  shows = shows-looked context w found p looked stands.shows;
+}
+
 -- wherever a worker stood, it stands once it looked for batches
 pub Keeps-looked : (counted : Bool) (w : WorkerState) (found : List Upstream) → AreLooked w.ins found → KeepsUnder counted w (record w { ins = found })
 unfolding KeepsUnder
-Keeps-looked counted w found looked context start p armed stands = (
-  p,
-  record {
-    leads = stands.leads;
-    text = stands.text;
-    shows = Shows-relinked context w p found w.outs w.journal stands.shows
-        (receive_all-looked context.base.had p.taken context.placement.role.senders w.ins found looked stands.shows.ins) (sides-looked context.placement.role.task w.ins found looked stands.shows.sides) stands.shows.outs;
-  },
-)
+Keeps-looked counted w found looked context start p armed stands = (p, stands-looked context w found start p looked stands)

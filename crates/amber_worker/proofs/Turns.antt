@@ -161,7 +161,7 @@ keeps-turn old new turn.Ended few makes = keeps-same (is_armed old) old new make
 
 -- ---- the same ends
 
-handed-same : (number : ℕ) (row : List Value) (outs after : List Downstream) → IsHandedOn number row outs after → AreSameReceivers outs after
+pub handed-same : (number : ℕ) (row : List Value) (outs after : List Downstream) → IsHandedOn number row outs after → AreSameReceivers outs after
 handed-same number row outs after handed = by handed.place handed.so
   where
     by : (place : Option ℕ)

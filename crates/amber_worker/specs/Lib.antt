@@ -10,7 +10,13 @@ pub mod Acting
 pub mod Steps
 pub mod RowsTaken
 pub mod Readied
+pub mod RedoneRows
+pub mod ReadiedRows
 pub mod Turning
 pub mod Driving
 pub mod Pairs
 pub mod Changes
+pub mod Replacing
+pub mod Emitting
+pub mod Redoing
+pub mod Redoable

@@ -19,7 +19,7 @@ use std::alloc::AllocError;
 
 // The place of a receiver, if there is one. Where the numbers of the receivers follow one another it is known by the
 // first of them, without a search.
-fn receiver_place(outs: &[Downstream], number: u32) -> Option<usize>
+pub(crate) fn receiver_place(outs: &[Downstream], number: u32) -> Option<usize>
     ensures none { IfNone result (list_any (λ one. one.to == number) outs.now ≡ false) }
     ensures there { IfSome result (λ place. place < length outs.now) }
     ensures own { IfSome result

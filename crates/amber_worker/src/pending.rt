@@ -1,13 +1,25 @@
 //! The rows that a worker has produced and not emitted. Rests on `Row` of `amber_rows`.
 
-ghost use Rattle.std.specs.Prelude.{◌≡◌, ◌∷◌, [], false, length, not, IfNone, IfSome, MatchOption, Some};
+ghost use Rattle.std.specs.Prelude.{◌≡◌, ◌<◌, ◌∷◌, [], List, false, length, not, slice_index_or, IfNone, IfSome, MatchOption, Some};
 ghost use Rattle.amber_rows.specs.Lists.{first_of};
 ghost use Rattle.amber_link.specs.Links.{has_some};
+ghost use Rattle.amber_rows.specs.declared.value.Value.{Value as Cell};
 
 use amber_rows::Row;
 use std::alloc::Global;
 use std::collections::VecDeque;
 use std::marker::Model;
+
+// The row at a place, of one row and those that come after it.
+fn row_behind<'a>(row: &'a Row, later: &'a VecDeque<Row>, place: usize) -> &'a Row
+    requires { place < length (row.now ∷ later.now.items) }
+    ensures { (d : List Cell) → result.now ≡ slice_index_or (row.now ∷ later.now.items) place d }
+{
+    if place == 0 {
+        return row;
+    }
+    &later[place - 1]
+}
 
 // The rows that are pending, seen as a list: a row that has a place of its own, and those that come after it.
 pub(crate) struct Pending {
@@ -63,6 +75,17 @@ impl Pending {
         match &self.first {
             Some(row) => Some(row),
             None => self.later.front(),
+        }
+    }
+
+    // The row at a place.
+    pub fn at(&self, place: usize) -> &Row
+        requires { place < length self.now }
+        ensures { (d : List Cell) → result.now ≡ slice_index_or self.now place d }
+    {
+        match &self.first {
+            None => &self.later[place],
+            Some(row) => row_behind(row, &self.later, place),
         }
     }
 

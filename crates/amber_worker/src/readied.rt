@@ -171,7 +171,7 @@ fn ready_joined(
 }
 
 // The rows of the groups where nothing more can come; else none.
-fn rows_once_over(
+pub(crate) fn rows_once_over(
     alloc: Global,
     state: &GroupState,
     over: bool,

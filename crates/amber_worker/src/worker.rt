@@ -15,11 +15,16 @@ ghost use Rattle.amber_worker.specs.Changes.{ShowsSet, StandsAtLeg, StandsNew, a
 
 mod beginning;
 mod driven;
+mod emitting;
+mod grouped_lines;
 mod heeding;
 mod linking;
 mod orders;
+mod redoing;
+mod replacing;
 mod standing;
 mod stepping;
+mod taking_lines;
 mod turning;
 mod views;
 

@@ -64,7 +64,7 @@ impl Worker {
     }
 
     // Gives the rows that are done with back to the sender of the batch that was at hand.
-    fn return_used(&mut self)
+    pub(super) fn return_used(&mut self)
         ensures { self.new ≡ self.old }
     {
         let from = self.rest.from;
@@ -75,7 +75,7 @@ impl Worker {
     }
 
     // A filter hands the rows on with which a receiver of its own is done.
-    fn pass_used(&mut self)
+    pub(super) fn pass_used(&mut self)
         ensures { self.new ≡ self.old }
     {
         if !matches!(&self.operator_state, OperatorState::Filter(_)) {
@@ -89,7 +89,7 @@ impl Worker {
 
     // Whether the next row holds the worker: it meets the condition, and was not waved on.
     #[inline(always)]
-    fn must_hold(&self) -> bool
+    pub(super) fn must_hold(&self) -> bool
         ensures { result ≡ must_hold self.now }
     {
         is_first_watched(&self.when, &self.gains.pending) && !self.flags.waved
@@ -181,7 +181,7 @@ impl Worker {
     }
 
     // Deals with the hand so, and takes the first batch of the sender at this place.
-    fn take_from(
+    pub(super) fn take_from(
         &mut self,
         board: Option<&Board>,
         how: Dealing,
@@ -223,7 +223,7 @@ impl Worker {
     }
 
     // Deals with the hand so, and finishes, where the last batches of all senders were taken.
-    fn finish(&mut self, board: Option<&Board>, how: Dealing) -> Result<(), AllocError>
+    pub(super) fn finish(&mut self, board: Option<&Board>, how: Dealing) -> Result<(), AllocError>
         requires few { steps_made self.old < 2 ^ 40 }
         requires own { IsBoardOf (option_copied board) self.old.seat }
         requires free { IsUnrestrained self.old }

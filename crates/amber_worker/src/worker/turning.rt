@@ -78,7 +78,7 @@ impl Worker {
 
     // What the entries of the journal move is little. It does nothing.
     #[inline(always)]
-    fn show_short(&self)
+    pub(super) fn show_short(&self)
         ensures { AreShort self.now.journal }
     {
         let _journal = &self.journal;

@@ -1,5 +1,5 @@
 -- One look, and one turn under its answer.
-use Rattle.std.proofs.Common.{◌≡◌, ◌∙◌, Option, Some, None, Bool, true, false, refl, sym, subst}
+use Rattle.std.proofs.Common.{◌≡◌, ◌∙◌, Option, Some, None, true, refl, sym, subst}
 use Rattle.std.proofs.lemmas.Bool.{false≢true}
 use Rattle.amber_mail.specs.Controls.{is_pause}
 use Rattle.amber_mail.specs.declared.mail.Control.{Control}

@@ -1,8 +1,6 @@
 -- A worker that does what it is told makes no turn.
-use Rattle.std.proofs.Common.{Some, ◌≡◌}
+use Rattle.std.proofs.Common.{Some}
 use Rattle.std.proofs.lemmas.Result.{on_ok_weaker}
-use Rattle.amber_worker.specs.Acting.{DealsAt, paused_at}
-use Rattle.amber_worker.specs.Turning.{MakesTurns}
 use Rattle.amber_worker.proofs.Heeding.{makes-dealt, makes-paused}
 use Rattle.amber_worker.proofs.worker.Worker.heed.Goals as goal
 

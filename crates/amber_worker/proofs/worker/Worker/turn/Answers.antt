@@ -1,9 +1,7 @@
 -- A worker does what it is told, and makes its turn.
-use Rattle.std.proofs.Common.{◌≡◌, Result, Ok, Err, sym, subst}
-use Rattle.std.specs.Result.{IfOk, OnErr}
-use Rattle.amber_worker.specs.AtPosition.{IsLookedAt}
+use Rattle.std.proofs.Common.{sym, subst}
+use Rattle.std.specs.Result.{IfOk}
 use Rattle.amber_worker.specs.Turning.{TurnsUnder}
-use Rattle.amber_worker.specs.WorkerState.{WorkerState}
 use Rattle.amber_worker.proofs.Told.{ends-paused, ends-result, keeps-paused, keeps-result, same-looked, turned-paused, turned-result, unsent-paused, unsent-result}
 use Rattle.amber_worker.proofs.worker.Worker.turn.Goals as goal
 

@@ -1,0 +1,168 @@
+-- A line of a log that takes rows: what these make, when it may be done, and what a worker is then.
+use Rattle.std.specs.Prelude.{◌≡◌, ℕ, ◌+◌, ◌-◌, ◌<◌, ◌≤◌, ◌==◌, ◌&&◌, not, List, [], ◌∷◌, ◌++◌, length, take, drop, Option, Bool, true, false, Ok, IfSome}
+use Rattle.std.specs.List.{flat_map}
+use Rattle.amber_rows.specs.declared.value.Value.{Value}
+use Rattle.amber_rows.specs.declared.column.Column.{Column}
+use Rattle.amber_rows.specs.declared.cond.Cond.{Cond}
+use Rattle.amber_log.specs.declared.entry.Entry.TheVariants as entry
+use Rattle.amber_meaning.specs.Refused.{refusal_in, refused_in}
+use Rattle.amber_meaning.specs.Rules.{pass_by}
+use Rattle.amber_meaning.specs.Task.{Arrival, row_in}
+use Rattle.amber_meaning.specs.declared.answer.Refusal.{Refusal}
+use Rattle.amber_scan.specs.declared.share.Scanned.{Scanned}
+use Rattle.amber_link.specs.Sides.{have_all_ended}
+use Rattle.amber_link.specs.declared.downstreams.Downstream.{Downstream}
+use Rattle.amber_worker.specs.Links.{IsHandedOn, number_to}
+use Rattle.amber_worker.specs.Steps.{Becomes, Closes, columns_at_hand, gives_if, keeps_if, passed_of}
+use Rattle.amber_worker.specs.WorkerState.{WorkerState}
+use Rattle.amber_worker.specs.declared.letting_by.Gate.{Gate}
+use Rattle.amber_worker.specs.declared.operator_state.OperatorState.{OperatorState}
+use Rattle.amber_worker.specs.declared.operator_state.OperatorState.TheVariants as operator_state
+use Rattle.amber_worker.specs.declared.redone_rows.RowsLine.{RowsLine}
+use Rattle.amber_worker.specs.declared.route.Route.{Route}
+use Rattle.amber_worker.specs.declared.taking_rows.Fate.{Fate}
+
+-- ---- what rows make
+
+-- the rows that go on of what is handed, of the build side or not
+abbrev pub yielded_by : OperatorState → Bool → List Column → List Arrival → List (List Value)
+yielded_by d builds columns arrivals = flat_map (λ one. gives_if d builds (row_in columns one.what)) arrivals
+
+-- the rows that are kept of it
+abbrev pub kept_by : OperatorState → List Column → List Arrival → List (List Value)
+kept_by d columns arrivals = flat_map (λ one. keeps_if d (row_in columns one.what)) arrivals
+
+-- what a worker keeps for its operator becomes this with it
+unfoldable pub BecomesWith : OperatorState → Bool → List Column → List Arrival → OperatorState → Type 0
+BecomesWith d builds columns [] now = now ≡ d
+BecomesWith d builds columns (one ∷ more) now =
+    (next : OperatorState) × Becomes d builds (row_in columns one.what) next × BecomesWith next builds columns more now
+
+-- the rows that go on of the rows of a batch, and those that are kept of them
+abbrev pub yielded_of : OperatorState → List Column → List (List Value) → List (List Value)
+yielded_of d columns rows = flat_map (λ row. gives_if d false (row_in columns (Ok row))) rows
+
+abbrev pub kept_of : OperatorState → List Column → List (List Value) → List (List Value)
+kept_of d columns rows = flat_map (λ row. keeps_if d (row_in columns (Ok row))) rows
+
+-- the rows that go on of the records of a share
+abbrev pub yielded_records : List Column → List Scanned → List (List Value)
+yielded_records columns records = flat_map (λ one. gives_if operator_state.Scan false (row_in columns one.what)) records
+
+-- what a scan refuses of them
+abbrev pub refused_records : ℕ → List Scanned → List Refusal
+refused_records op records = flat_map (λ one. refusal_in op one.number one.what) records
+
+-- the rows that go on of those of which this becomes
+unfoldable pub passed_by : List Fate → List (List Value) → List (List Value)
+passed_by [] rows = []
+passed_by (fate ∷ fates) [] = []
+passed_by (fate ∷ fates) (row ∷ rows) = passed_of fate row ++ passed_by fates rows
+
+-- ---- when a line may be done
+
+-- none of these rows that are still to be emitted holds a worker
+abbrev pub lets_by : Option Cond → Gate → List (List Value) → Bool
+lets_by when gate rows = pass_by when gate.waved (take gate.left rows)
+
+-- the numbers of a line meet the rule, where so many rows are left to be taken, so many are pending or come of all that it takes but for
+-- the last, and so many are pending or come of all of it
+pub record Fits (line : RowsLine) (left gone all : ℕ) : Type 0 where
+  pub within : line.rows ≤ left
+  pub produced : line.outs ≤ all
+  -- a row is taken only where all that was produced before it is gone
+  pub drained : 0 < line.rows → gone ≤ line.outs
+  -- under a count each row is emitted with a unit, and each is taken while there is one
+  pub in_hand : IfSome line.armed (λ armed. line.outs ≤ armed.hand)
+  pub before_taking : IfSome line.armed (λ armed. 0 < line.rows → gone < armed.hand)
+
+-- what a line is judged by: how much is left to be taken, the rows that are pending, how many come of what it takes but for the last,
+-- the rows that come of all of it, the condition in force, and whether the first row is waved on
+pub record Offer : Type 0 where
+  pub left : ℕ
+  pub pending : List (List Value)
+  pub before : ℕ
+  pub made : List (List Value)
+  pub when : Option Cond
+  pub waved : Bool
+
+-- the line may be done
+pub record MayGoOn (line : RowsLine) (offer : Offer) : Type 0 where
+  pub fits : Fits line offer.left (length offer.pending + offer.before) (length offer.pending + length offer.made)
+  pub no_stop : pass_by offer.when offer.waved (take line.outs (offer.pending ++ offer.made)) ≡ true
+
+-- the rows that go on of so much of what is left to a worker
+abbrev pub yielded : ℕ → WorkerState → List (List Value)
+yielded rows w = yielded_by w.operator_state w.building (columns_at_hand w) (take rows w.rest)
+
+-- by what a line is judged that takes so many rows of a worker, where these are given at the end
+abbrev pub offered : List (List Value) → ℕ → WorkerState → Offer
+offered last rows w = record {
+  left = length w.rest;
+  pending = w.pending;
+  before = length (yielded (rows - 1) w);
+  made = yielded rows w ++ last;
+  when = w.when;
+  waved = w.restraint.waved;
+}
+
+-- the line may be done by a worker, which gives these rows at the end
+abbrev pub MayGoFrom : RowsLine → List (List Value) → WorkerState → Type 0
+MayGoFrom line last w = MayGoOn line (offered last line.rows w)
+
+-- nothing more can come once so many rows were taken, which was not so before
+abbrev pub ends_with : ℕ → WorkerState → Bool
+ends_with rows w = not (rows == 0) && ((rows == length w.rest) && have_all_ended w.ins)
+
+-- what a worker keeps for its operator becomes this with so many rows
+abbrev pub BecomesTaking : ℕ → WorkerState → OperatorState → Type 0
+BecomesTaking rows w now = BecomesWith w.operator_state w.building (columns_at_hand w) (take rows w.rest) now
+
+-- these rows are given at the end with so many rows taken, once nothing more can come; else none
+pub record IsGivenLast (rows : ℕ) (w : WorkerState) (last : List (List Value)) : Type 0 where
+  pub none : ends_with rows w ≡ false → last ≡ []
+  pub some : ends_with rows w ≡ true → (now : OperatorState) × BecomesTaking rows w now × Closes now true last
+
+-- ---- what a worker is then
+
+-- rows were pushed, one after the other, each for its receiver, if there is one
+unfoldable pub AreHandedOn : Route → List (List Value) → List Downstream → List Downstream → Type 0
+AreHandedOn to [] outs after = outs ≡ after
+AreHandedOn to (row ∷ rows) outs after = (next : List Downstream) × IsHandedOn (number_to to row) row outs next × AreHandedOn to rows next after
+
+-- the line was done; what the worker keeps for its operator became this, these rows were given at the end, and its receivers are these
+abbrev pub rows_gone : RowsLine → OperatorState → List (List Value) → List Downstream → WorkerState → WorkerState
+rows_gone line now last outs w = record w {
+  operator_state = now;
+  rest = drop line.rows w.rest;
+  pending = drop line.outs (w.pending ++ (yielded line.rows w ++ last));
+  taken = w.taken + line.rows;
+  emitted = w.emitted + line.outs;
+  refused = w.refused ++ refused_in w.op (take line.rows w.rest);
+  kept = w.kept ++ kept_by w.operator_state (columns_at_hand w) (take line.rows w.rest);
+  restraint = record w.restraint { waved = w.restraint.waved && (line.outs == 0) };
+  outs = outs;
+  journal = w.journal ++ entry.Go line.rows line.outs ∷ [];
+}
+
+-- the line was done, whole
+pub record GoesOn (line : RowsLine) (old new : WorkerState) : Type 0 where
+  pub now : OperatorState
+  pub becomes : BecomesTaking line.rows old now
+  pub last : List (List Value)
+  pub closes : Closes now (ends_with line.rows old) last
+  pub may : MayGoFrom line last old
+  pub outs : List Downstream
+  pub handed : AreHandedOn old.route (take line.outs (old.pending ++ (yielded line.rows old ++ last))) old.outs outs
+  pub after : new ≡ rows_gone line now last outs old
+
+-- the line may not be done
+pub record MayNotGo (line : RowsLine) (w : WorkerState) : Type 0 where
+  pub last : List (List Value)
+  pub gives : IsGivenLast line.rows w last
+  pub never : MayGoFrom line last w → ⊥
+
+-- the line was done, or may not be, and all is as before
+abbrev pub GoesOrNot : RowsLine → WorkerState → WorkerState → Bool → Type 0
+GoesOrNot line old new true = GoesOn line old new
+GoesOrNot line old new false = MayNotGo line old × (new ≡ old)
