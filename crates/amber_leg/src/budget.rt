@@ -22,7 +22,7 @@ const PAUSED: Shape = Shape {
     slice: 1024,
 };
 
-// How often a thread looks again whose workers all wait for workers of other threads.
+// How often a thread looks again at least whose workers all wait for workers of other threads.
 const LOOKS: u32 = 4;
 
 // The turns of a drive, after which it is looked whether the worker still moves, and what it has done is noted; and the turns of
@@ -40,7 +40,7 @@ const BETWEEN_ALONE: u32 = 1024;
 const MOST_PASSES: u64 = 65_536;
 
 /// The turns of a round: so many slices of each worker, one of each after the other, with so many turns in a slice; and how
-/// often in a row a thread looks again where none of its workers moves.
+/// often in a row a thread looks again, and longer while others move, where none of its workers moves.
 #[derive(Clone, Copy)]
 pub(crate) struct Budget {
     pub passes: u32,

@@ -6,6 +6,7 @@ ghost use Rattle.amber_leg.specs.Coordinating.{AreLedOn};
 use crate::desk::Desk;
 use crate::dividing::divide_all;
 use crate::shared::Shared;
+use crate::signals::Rest;
 use amber_board::{Board, ChiefSeat};
 use amber_mail::Gate;
 use std::thread::yield_now;
@@ -33,11 +34,22 @@ pub(crate) fn attend(
     heard
 }
 
+/// The coordinator's driver goes on where anything came of the coordinator's turn, and else rests and lets other threads go on.
+pub(crate) fn rest_or_go_on(rest: &mut Rest<'_>, came: bool) {
+    if came {
+        rest.end();
+    } else {
+        let _looks = rest.look();
+        yield_now();
+    }
+}
+
 /// Turns of the coordinator, until so many drivers have come home, or for 1,048,576 turns.
 pub(crate) fn coordinate<G: Gate>(
     desk: &mut Desk,
     chiefs: &mut [Option<ChiefSeat>],
     shared: &Shared<'_, G>,
+    rest: &mut Rest<'_>,
     drivers: usize,
 )
     requires led { AreLedOn shared.now.all.now chiefs.old }
@@ -49,8 +61,6 @@ pub(crate) fn coordinate<G: Gate>(
         }
         let heard = attend(desk, chiefs, shared.all);
         let told = desk.tell(shared.gate, &shared.signals);
-        if !heard && !told {
-            yield_now();
-        }
+        rest_or_go_on(rest, heard || told);
     }
 }

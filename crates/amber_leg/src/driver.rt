@@ -6,15 +6,17 @@ ghost use Rattle.amber_leg.specs.Driving.{HasDrivenAll, MayDrive, turns_of};
 use crate::budget::Budget;
 use crate::pause_mail::PauseMail;
 use crate::shared::Shared;
-use crate::signals::Signals;
+use crate::signals::{Rest, Signals};
 use crate::slices::{Pace, drive_place};
 use amber_mail::{Gate, RingMail};
 use amber_worker::Worker;
 use std::alloc::AllocError;
 use std::thread::yield_now;
 
-// How often a thread lets others go on before it looks again.
+// How often a thread lets others go on before it looks again, and how many times as often at most where it has looked in vain.
 const YIELDS: u32 = 64;
+
+const MOST_TIMES: u32 = 16;
 
 /// The workers that one thread drives, each at the place of its number; other places are empty.
 #[derive(Drop)]
@@ -77,28 +79,34 @@ pub(crate) fn drive_slices<G: Gate>(
     Ok(pace)
 }
 
-// Lets other threads go on for about as long as a slice takes.
-fn wait() {
-    for _ in 0..YIELDS {
+// Lets other threads go on for about as long as a slice takes, and longer the more often it was looked in vain.
+fn wait(looks: u32) {
+    for _ in 0..YIELDS * looks.min(MOST_TIMES) {
         yield_now();
     }
 }
 
-// Slices of a driver's workers, until all have made their turns, or none of them has moved for as many looks as the budget
-// allows, or all stand.
-fn drive_passes<G: Gate>(driver: &mut Driver, shared: &Shared<'_, G>) -> Result<(), AllocError>
+// Slices of a driver's workers, until all have made their turns, or all stand, or none of them has moved for more looks than the
+// budget has and all other drivers rest as well.
+fn drive_passes<G: Gate>(
+    driver: &mut Driver,
+    shared: &Shared<'_, G>,
+    rest: &mut Rest<'_>,
+) -> Result<(), AllocError>
     requires may { MayDrive (turns_of shared.now.budget) shared.now.boards.now driver.old }
     ensures driven { OnOk result (HasDrivenAll (turns_of shared.now.budget)
         shared.now.boards.now driver.old driver.new) }
 {
     let budget = shared.budget;
-    let mut looks = 0;
     'passes: for made in 0..budget.passes {
         match drive_slices(driver, shared, budget)? {
-            Pace::Moves => looks = 0,
-            Pace::Waits if looks < budget.looks && made + 1 < budget.passes => {
-                looks += 1;
-                wait();
+            Pace::Moves => rest.end(),
+            Pace::Waits if made + 1 < budget.passes => {
+                let looks = rest.look();
+                if rest.is_over(budget.looks) {
+                    return Ok(());
+                }
+                wait(looks);
             }
             Pace::Waits | Pace::Stands => return Ok(()),
         }
@@ -112,7 +120,9 @@ pub(crate) fn drive<G: Gate>(driver: &mut Driver, shared: &Shared<'_, G>)
     ensures driven { driver.new.failed ≡ false → HasDrivenAll (turns_of shared.now.budget)
         shared.now.boards.now driver.old driver.new }
 {
-    if drive_passes(driver, shared).is_err() {
+    let mut rest = Rest::new(&shared.signals);
+    if drive_passes(driver, shared, &mut rest).is_err() {
         driver.failed = true;
     }
+    rest.end();
 }

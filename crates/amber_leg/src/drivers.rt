@@ -210,7 +210,7 @@ pub(crate) fn drive_crew<R: Threads + Sync, G: Gate + Sync>(
         all: all.as_slice(),
         gate,
         budget,
-        signals: Signals::new(),
+        signals: Signals::new(wanted),
     };
     drive_beside(rt, drivers, &shared, &mut desk, crew.chiefs.as_mut_slice());
     if has_any_failed(drivers) {

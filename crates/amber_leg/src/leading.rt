@@ -7,15 +7,15 @@ ghost use Rattle.amber_leg.specs.Coordinating.{AreLedOn};
 ghost use Rattle.amber_leg.specs.Driving.{HasDrivenAll, MayDrive, turns_of};
 
 use crate::budget::{Budget, in_slices};
-use crate::coordinator::{attend, coordinate};
+use crate::coordinator::{attend, coordinate, rest_or_go_on};
 use crate::desk::Desk;
 use crate::driver::{Driver, drive_slices};
 use crate::shared::Shared;
+use crate::signals::Rest;
 use crate::slices::Pace;
 use amber_board::ChiefSeat;
 use amber_mail::Gate;
 use std::alloc::AllocError;
-use std::thread::yield_now;
 
 // Slices of a driver's workers, each followed by a turn of the coordinator, until all have made their turns, or all stand, or none
 // can move and all others have come home.
@@ -25,6 +25,7 @@ fn lead_passes<G: Gate>(
     budget: Budget,
     desk: &mut Desk,
     chiefs: &mut [Option<ChiefSeat>],
+    rest: &mut Rest<'_>,
     others: usize,
 ) -> Result<(), AllocError>
     requires may { MayDrive (turns_of budget) shared.now.boards.now driver.old }
@@ -38,11 +39,9 @@ fn lead_passes<G: Gate>(
         let heard = attend(desk, chiefs, shared.all);
         let told = desk.tell(shared.gate, &shared.signals);
         match pace {
-            Pace::Moves => {}
+            Pace::Moves => rest.end(),
             Pace::Waits if !shared.signals.have_come_home(others) => {
-                if !heard && !told {
-                    yield_now();
-                }
+                rest_or_go_on(rest, heard || told);
             }
             Pace::Waits | Pace::Stands => return Ok(()),
         }
@@ -66,8 +65,9 @@ pub(crate) fn lead<G: Gate>(
     ensures led { AreLedOn shared.now.all.now chiefs.new }
 {
     let budget = in_slices(shared.budget);
-    if lead_passes(driver, shared, budget, desk, chiefs, others).is_err() {
+    let mut rest = Rest::new(&shared.signals);
+    if lead_passes(driver, shared, budget, desk, chiefs, &mut rest, others).is_err() {
         driver.failed = true;
     }
-    coordinate(desk, chiefs, shared, others);
+    coordinate(desk, chiefs, shared, &mut rest, others);
 }

@@ -36,8 +36,8 @@ returns-in-Waits-2-2 g c =
           c.passes.invariant.driven c.in_ok-drive_slices.ensures.driven;
     }
 
-pub returns-in-Waits-2-3 : goal.returns-in-Waits-2-3
-returns-in-Waits-2-3 g c =
+pub returns-then-is_over : goal.returns-then-is_over
+returns-then-is_over g c =
     let test = c.passes-test.true in
     record {
       driven = passed c.args.shared.now.boards.now c.passes.made c.args.shared.now.budget.passes c.args.shared.now.budget.slice c.args.driver.now c.passes.driver c.drive_slices.new.driver (omega arith)
