@@ -1,6 +1,7 @@
 pub mod Answered
 pub mod Arming
 pub mod Bags
+pub mod CountReplies
 pub mod CountStops
 pub mod Counted
 pub mod Dealt

@@ -1,4 +1,5 @@
 pub mod AnswerLaws
 pub mod CountLaws
+pub mod CountStops
 pub mod DealtLaws
 pub mod StepLaws

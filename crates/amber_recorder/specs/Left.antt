@@ -6,9 +6,10 @@ use Rattle.amber_log.specs.LogText.{item_text, log_text}
 use Rattle.amber_log.specs.ReadAs.{IsReadAs}
 use Rattle.amber_log.specs.declared.command.Command.{Command}
 use Rattle.amber_log.specs.declared.log.Item.{Item}
+use Rattle.amber_log.specs.declared.log.Item.TheVariants as item
 use Rattle.amber_log.specs.declared.log.Log.{Log}
 use Rattle.amber_meaning.specs.InTime.{AreInTime}
-use Rattle.amber_meaning.specs.Legal.{IsLegal}
+use Rattle.amber_meaning.specs.Legal.{IsLegal, IsUnaltered}
 use Rattle.amber_meaning.specs.Replay.{state_after}
 use Rattle.amber_meaning.specs.State.{start_of}
 use Rattle.amber_meaning.specs.Transcript.{replies}
@@ -17,6 +18,10 @@ use Rattle.amber_debug.specs.Session.{IsNextInTime, Session, command_of, is_long
 use Rattle.amber_course.specs.declared.failure.Failure.{Failure}
 use Rattle.amber_course.specs.declared.failure.Failure.TheVariants as failure
 use Rattle.amber_recorder.specs.Recording.{Doing}
+
+-- no command sets a constant or drops a row
+abbrev pub AlterNothing : List Command → Type 0
+AlterNothing commands = IsUnaltered (map item.Do commands)
 
 -- whether the last item is a leg that was closed because the steps were as many as may be; `long` where there is no item
 abbrev pub ends_long : Bool → List Item → Bool

@@ -18,7 +18,8 @@ use Rattle.amber_run.specs.Outcome.{Answers, Breaks, IsJobStatus, IsRunStatus, I
 use Rattle.amber_run.specs.UnderWay.{Leaves}
 use Rattle.amber_course.specs.Steps.{Tells}
 use Rattle.amber_course.specs.Failure.{status_of}
-use Rattle.amber_run.specs.RunTask.{AlterNothing, RunTask, end_alone, most_steps}
+use Rattle.amber_recorder.specs.Left.{AlterNothing}
+use Rattle.amber_run.specs.RunTask.{RunTask, end_alone, most_steps}
 use Rattle.amber_course.specs.Words.{call_words_of}
 use Rattle.amber_recorder.specs.Writing.{FailedAs}
 use Rattle.amber_course.specs.declared.job.Job.{Job}

@@ -2,7 +2,6 @@ pub mod Texting
 pub mod Ending
 pub mod Refusing
 pub mod Working
-pub mod CountStops
 pub mod ExampleCounts
 pub mod Finishing
 pub mod Deciding

@@ -12,7 +12,8 @@ use Rattle.amber_meaning.specs.Transcript.{transcript_of}
 use Rattle.amber_course.specs.declared.failure.Failure.{Failure}
 use Rattle.amber_course.specs.declared.failure.Failure.TheVariants as failure
 use Rattle.amber_run.specs.AnsweredByChange.{EndsTornShown, HasTextShown, IsBareShown, IsDoneShown, IsItemShown, IsLeftShown, IsUnderWayShown, LeavesShown, TaskShown, ThenPuts, shown_in, showing}
-use Rattle.amber_run.specs.RunTask.{AlterNothing, RunTask, most_steps, query_at}
+use Rattle.amber_recorder.specs.Left.{AlterNothing}
+use Rattle.amber_run.specs.RunTask.{RunTask, most_steps, query_at}
 use Rattle.amber_run.specs.UnderWay.{EndsTorn, HasText, IsBare, IsDone, IsItemFor, IsLeft, IsUnderWay, Leaves}
 
 -- ---- known bytes

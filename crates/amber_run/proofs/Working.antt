@@ -10,7 +10,6 @@ use Rattle.amber_log.specs.LogText.{head_text, item_text, log_text}
 use Rattle.amber_log.specs.ReadAs.{IsReadAs}
 use Rattle.amber_log.specs.declared.command.Command.{Command}
 use Rattle.amber_log.specs.declared.log.Item.{Item}
-use Rattle.amber_log.specs.declared.log.Log.{Log}
 use Rattle.amber_log.proofs.Pushes.{log_text-head}
 use Rattle.amber_log.proofs.Torn.{reads-torn_head, reads-whole}
 use Rattle.amber_meaning.specs.InTime.{AreInTime, IsInTime}

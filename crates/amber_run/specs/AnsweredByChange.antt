@@ -34,10 +34,10 @@ use Rattle.amber_course.specs.declared.failure.Failure.{Failure}
 use Rattle.amber_course.specs.declared.failure.Failure.TheVariants as failure
 use Rattle.amber_debug.specs.Session.{command_of, one_more}
 use Rattle.amber_leg.specs.Leg.{most_late}
-use Rattle.amber_run.specs.CountStops.{StopForCounts}
-use Rattle.amber_run.specs.RunTask.{AlterNothing, end_alone, most_steps}
+use Rattle.amber_laws.specs.CountStops.{StopForCounts}
+use Rattle.amber_run.specs.RunTask.{end_alone, most_steps}
 use Rattle.amber_run.specs.UnderWay.{log_of_items}
-use Rattle.amber_recorder.specs.Left.{ClosesAs, IsTorn, ends_long}
+use Rattle.amber_recorder.specs.Left.{AlterNothing, ClosesAs, IsTorn, ends_long}
 use Rattle.amber_run.specs.Outcome.{Answered, Answers, AsksFor, AsksNoRun, IsSinkStatus, MeetsLimit, Stops, TellsLong}
 
 -- ---- what is shown, and what has changed

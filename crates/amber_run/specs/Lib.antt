@@ -1,6 +1,5 @@
 pub mod AnsweredByChange
 pub mod Answering
-pub mod CountStops
 pub mod Outcome
 pub mod RunTask
 pub mod UnderWay

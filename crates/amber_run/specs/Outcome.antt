@@ -12,8 +12,8 @@ use Rattle.amber_meaning.specs.Plain.{row_total}
 use Rattle.amber_meaning.specs.Total.{step_total}
 use Rattle.amber_run.specs.Answering.{IsBrokenOff, Fulfils, IsUntouched}
 use Rattle.amber_course.specs.Course.{IsReached, course_of, job_of, most_rows}
-use Rattle.amber_run.specs.RunTask.{AlterNothing, most_steps}
-use Rattle.amber_recorder.specs.Left.{ends_long}
+use Rattle.amber_run.specs.RunTask.{most_steps}
+use Rattle.amber_recorder.specs.Left.{AlterNothing, ends_long}
 use Rattle.amber_course.specs.Words.{call_words_of}
 use Rattle.amber_course.specs.declared.job.Job.{Job}
 use Rattle.amber_course.specs.declared.job.Job.TheVariants as job

@@ -1,11 +1,10 @@
 -- What a run is to do.
-use Rattle.std.specs.Prelude.{◌≡◌, ℕ, ◌^◌, List, [], ◌∷◌, ◌++◌, map}
+use Rattle.std.specs.Prelude.{◌≡◌, ℕ, ◌^◌, List, [], ◌∷◌, ◌++◌}
 use Rattle.amber_io.specs.World.{World}
 use Rattle.amber_rows.specs.declared.flow.Operator.{Operator}
 use Rattle.amber_log.specs.declared.command.Command.{Command}
 use Rattle.amber_log.specs.declared.command.Command.TheVariants as command
-use Rattle.amber_log.specs.declared.log.Item.TheVariants as item
-use Rattle.amber_meaning.specs.Legal.{IsUnaltered, Query, query_over}
+use Rattle.amber_meaning.specs.Legal.{Query, query_over}
 use Rattle.amber_course.specs.declared.job.RunJob.{RunJob}
 use Rattle.amber_debug.specs.Session.{Session}
 
@@ -34,10 +33,6 @@ query_at t batch_size = query_over t.flow t.inputs batch_size most_steps
 -- what is done after the commands of a script
 abbrev pub end_alone : List Command
 end_alone = command.End ∷ []
-
--- no command sets a constant or drops a row
-abbrev pub AlterNothing : List Command → Type 0
-AlterNothing commands = IsUnaltered (map item.Do commands)
 
 -- the session runs what the task asks for
 pub record IsSession (t : RunTask) (d : Session) : Type 0 where

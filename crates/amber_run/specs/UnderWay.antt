@@ -1,5 +1,5 @@
 -- How far a run has come, and what it leaves that ended early.
-use Rattle.std.specs.Prelude.{◌≡◌, ◌≢◌, ℕ, ◌<◌, ◌≤◌, ◌⊎◌, List, [], ◌∷◌, ◌++◌, length, map, Result, Ok, Err, Bool, true, false, ⊤}
+use Rattle.std.specs.Prelude.{◌≡◌, ◌≢◌, ℕ, ◌<◌, ◌≤◌, ◌⊎◌, List, [], ◌∷◌, ◌++◌, length, map, Result, Ok, Err, false}
 use Rattle.std.specs.Io.KnownBytes.{Appends, Keeps}
 use Rattle.amber_io.specs.Folder.{with_file, without_file}
 use Rattle.amber_io.specs.World.{World}
@@ -19,9 +19,9 @@ use Rattle.amber_meaning.specs.Total.{step_total}
 use Rattle.amber_meaning.specs.Transcript.{replies, reply_of, transcript_of}
 use Rattle.amber_debug.specs.Session.{Session, command_of, one_more}
 use Rattle.amber_leg.specs.Leg.{most_late}
-use Rattle.amber_run.specs.CountStops.{StopForCounts}
-use Rattle.amber_recorder.specs.Left.{ClosesAs, IsTorn, ends_long}
-use Rattle.amber_run.specs.RunTask.{AlterNothing, IsSession, RunTask, most_steps, query_at}
+use Rattle.amber_laws.specs.CountStops.{StopForCounts}
+use Rattle.amber_recorder.specs.Left.{AlterNothing, ClosesAs, IsTorn, ends_long}
+use Rattle.amber_run.specs.RunTask.{IsSession, RunTask, most_steps, query_at}
 use Rattle.amber_course.specs.declared.failure.Failure.{Failure}
 use Rattle.amber_course.specs.declared.failure.Failure.TheVariants as failure
 

@@ -28,15 +28,15 @@ one_escaped byte rest =
       ]
     ]
 
-onto_none : (more : Option (List (List ℕ))) → more ≡ option_map (onto_word []) more
+pub onto_none : (more : Option (List (List ℕ))) → more ≡ option_map (onto_word []) more
 onto_none None = refl
 onto_none (Some words) = refl
 
-onto_one : (byte : ℕ) (bytes : List ℕ) (more : Option (List (List ℕ))) → option_map (onto_first byte) (option_map (onto_word bytes) more) ≡ option_map (onto_word (byte ∷ bytes)) more
+pub onto_one : (byte : ℕ) (bytes : List ℕ) (more : Option (List (List ℕ))) → option_map (onto_first byte) (option_map (onto_word bytes) more) ≡ option_map (onto_word (byte ∷ bytes)) more
 onto_one byte bytes None = refl
 onto_one byte bytes (Some words) = refl
 
-text_escaped : (text rest : List ℕ) → words_from Quoted (flat_map escape_of text ++ 34 ∷ rest) ≡ option_map (onto_word text) (words_from Closed rest)
+pub text_escaped : (text rest : List ℕ) → words_from Quoted (flat_map escape_of text ++ 34 ∷ rest) ≡ option_map (onto_word text) (words_from Closed rest)
 unfolding words_from
 text_escaped [] rest = onto_none (words_from Closed rest)
 text_escaped (byte ∷ text) rest =

@@ -11,7 +11,7 @@ use Rattle.std.proofs.lemmas.Str.Parse.{numerals_by_value, parse_digits, tells_a
 use Rattle.amber_script.specs.Numbers.{below, is_canonical}
 
 -- each byte is a digit
-all_digits : (word : List ℕ) → list_all is_ascii_digit word ≡ all_ascii_digits word
+pub all_digits : (word : List ℕ) → list_all is_ascii_digit word ≡ all_ascii_digits word
 all_digits [] = refl
 all_digits (byte ∷ word) = ap (λ (t : Bool). is_ascii_digit byte && t) (all_digits word)
 

@@ -1,5 +1,5 @@
 -- The log is made, and then come the commands.
-use Rattle.std.proofs.Common.{◌≡◌, ◌++◌, [], Ok, Err, ap, subst, sym, ◌∙◌, refl, rules}
+use Rattle.std.proofs.Common.{◌≡◌, ◌++◌, [], Ok, Err, ap, subst, sym, refl, rules}
 use Rattle.amber_io.specs.World.{World}
 use Rattle.amber_run.specs.RunTask.{IsSession, RunTask, end_alone}
 use Rattle.amber_run.specs.UnderWay.{IsUnderWay, log_of_items}

@@ -18,7 +18,7 @@ use Rattle.amber_meaning.proofs.Senders.{flows_send_forward}
 use Rattle.amber_laws.specs.CountLaws.{log_with_run, run_state}
 use Rattle.amber_laws.proofs.Arming.{counts_count_since_armed}
 use Rattle.amber_laws.proofs.CountStops.{counts_stop_at_their_target}
-use Rattle.amber_run.specs.CountStops.{StopForCounts}
+use Rattle.amber_laws.specs.CountStops.{StopForCounts}
 
 -- however a leg is closed, its reply is the text of its stops: one that was too long has none
 closed-reply : (query : Query) (reached : State) (closed : Close) → ClosesRun query reached closed → run_reply query reached closed ≡ stops_text query.flow (stops_in query reached)
