@@ -1,0 +1,13 @@
+pub mod Growing
+pub mod Talking
+pub mod Answered
+pub mod Bytewise
+pub mod Starting
+pub mod Going
+pub mod Closing
+pub mod Calls
+pub mod Speaking
+pub mod Ending
+pub mod Running
+pub mod Whole
+pub mod Complete

@@ -1,0 +1,9 @@
+pub mod Talk
+pub mod Answers
+pub mod Dialogue
+pub mod Beginning
+pub mod Feeding
+pub mod Told
+pub mod Sessions
+pub mod Spoken
+pub mod Running
