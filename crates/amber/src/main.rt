@@ -2,7 +2,7 @@
 //! with the status as its exit code.
 #![tactic(auto)]
 
-use amber_io::RealFolder;
+use amber_io::{RealFolder, RealSink};
 use amber_mail::OpenGate;
 use amber_run::{Printed, Status, amber};
 use amber_terminal::{Screen, TerminalSink};
@@ -27,6 +27,12 @@ const HELP: &str = "amber answers queries over CSV files.
                          of the run work side by side: how far each is at a stop may depend on it, but
                          not the answer where the script has no set and no drop. BATCH, the rows of a
                          batch, is 1 to 65536
+  amber debug WORKFLOW LOG [THREADS BATCH]
+                         a session: reads commands from the standard input, one a line, and answers
+                         each before it reads the next; `amber debug --help` tells more
+  amber commands WORKFLOW LOG
+                         prints the commands of a log, one a line, as a script; `amber commands --help`
+                         tells more
   amber --help           prints this text
   amber --version        prints the version
 
@@ -52,8 +58,8 @@ order. Records that are no rows are skipped and reported before it.
 LOG is made anew: what stood in that file is gone. It is none of the files that are read, under whatever
 path or link; such a run ends with 5 and leaves the file as it was.
 
-WORKFLOW and SCRIPT have at most 1 MiB each, and the files of all scans at most 32 MiB together. A query's
-operators give at most 2^40 rows together, and a run makes at most 2^40 steps.
+WORKFLOW, SCRIPT and the input of a session have at most 1 MiB each, and the files of all scans at most
+32 MiB together. A query's operators give at most 2^40 rows together, and a run makes at most 2^40 steps.
 
 Whatever is refused is reported in one line on the standard output, unless that failed: `error`, the exit
 code, a word for what was refused, and then what it was, as in `error 4 read orders.csv` or
@@ -63,11 +69,12 @@ code, a word for what was refused, and then what it was, as in `error 4 read ord
    1  the words are no form of a call
    2  the workflow was refused, or the header of a scan's file
    3  the script was refused
-   4  a file was not there, or could not be read
+   4  a file was not there, or it or the input of a session could not be read
    5  the log could not be written
    6  the output could not be written
+   7  the log was refused, of which the commands were to be printed
    8  the work went past its limit
-   9  a file was too large
+   9  a file, or the input of a session, was too large
   10  memory ran out
   70  the launcher could not build the program
 ";
@@ -128,7 +135,7 @@ fn call<R: Files + Print + Eprint + Threads + Sync + AllocGlobal>(
 ) -> Status {
     let screen = Screen::new(rt, terminal, None);
     let mut folder = RealFolder::new(rt.alloc(), rt);
-    let mut out = TerminalSink::new(rt, &screen);
+    let mut out = TerminalSink::new(RealSink::new(rt), &screen);
     let mut printed = Printed::new();
     let status = amber(
         rt,

@@ -3,7 +3,8 @@
 //!
 //! A refusal is one line: `error 2 flow 1 Header` ends a call, `refused 3 Operator` answers a line of a session. Its last word
 //! is for programs. `sentence_of` has the sentence for people: of the first that the file of a scan does not begin with the
-//! names of the scan's columns. `TerminalSink` is the standard output which tells it on a `Screen`.
+//! names of the scan's columns. `TerminalSink` is a sink, such as the standard output,
+//! beside which a `Screen` tells it.
 //!
 //! # Example
 //!

@@ -104,6 +104,15 @@ fn of_line(word: &[u8]) -> Option<&'static str> {
     None
 }
 
+// The sentence of a log's reason, by its word.
+fn of_log(word: &[u8]) -> Option<&'static str> {
+    match word {
+        b"Text" => Some("The line is none that may stand there in a log."),
+        b"Illegal" => Some("A script for this workflow cannot have the command in this line."),
+        _ => None,
+    }
+}
+
 // The sentence of an error line, by the words behind `error`.
 fn of_error(words: &[u8]) -> Option<&'static str> {
     let (code, about) = cut(words);
@@ -115,6 +124,7 @@ fn of_error(words: &[u8]) -> Option<&'static str> {
         b"3" => of_line(why),
         b"4" => Some("It is not there, or it cannot be read."),
         b"5" => Some("The log cannot be made or written, or it is one of the files that are read."),
+        b"7" => of_log(why),
         b"8" => Some("The work went past 2^40 rows or steps."),
         b"9" => Some("It is larger than it may be."),
         b"10" => Some("Memory ran out."),

@@ -1,12 +1,11 @@
-//! The standard output. Behind a line that refuses something it is told what that means. Rests on `RealSink`, on `Screen` and on
-//! `sentence_of`.
+//! A sink beside a screen: what is put into it goes on as it is, and behind a line that refuses something the screen tells what that
+//! means. Rests on `Screen` and on `sentence_of`.
 
-ghost use Rattle.std.specs.Prelude.{◌≡◌, None};
-ghost use Rattle.amber_io.specs.Real.{failed_puts};
+ghost use Rattle.std.specs.Prelude.{◌≡◌};
 
 use crate::screen::Screen;
 use crate::sentences::sentence_of;
-use amber_io::{IoErr, RealSink, Sink};
+use amber_io::{IoErr, Sink};
 
 // How many bytes of a line are looked at.
 const LINE: usize = 96;
@@ -75,19 +74,23 @@ impl Beginning {
     }
 }
 
-/// The standard output, beside a screen.
+/// A sink beside a screen: each piece is handed on whole and once.
 #[derive(Drop)]
-pub struct TerminalSink<'a, 'r, R> {
-    real: RealSink<'r, R>,
+pub struct TerminalSink<'a, 'r, R, S: Sink> {
+    sink: S,
     screen: &'a Screen<'r, R>,
     beginning: Beginning,
 }
 
-impl<'a, 'r, R: Print + Eprint> TerminalSink<'a, 'r, R> {
-    /// The standard output of `rt`.
-    pub fn new(rt: &'r R, screen: &'a Screen<'r, R>) -> TerminalSink<'a, 'r, R> {
+impl<'a, 'r, R: Eprint, S: Sink> TerminalSink<'a, 'r, R, S> {
+    /// This sink, beside the screen.
+    pub fn new(sink: S, screen: &'a Screen<'r, R>) -> TerminalSink<'a, 'r, R, S>
+        ensures written { ⟦<TerminalSink<'a, 'r, R, S> as Sink>⟧.written result
+            ≡ S.written sink }
+        ensures faults { ⟦<TerminalSink<'a, 'r, R, S> as Sink>⟧.faults result ≡ S.faults sink }
+    {
         TerminalSink {
-            real: RealSink::new(rt),
+            sink,
             screen,
             beginning: Beginning {
                 line: [0; LINE],
@@ -97,14 +100,14 @@ impl<'a, 'r, R: Print + Eprint> TerminalSink<'a, 'r, R> {
     }
 }
 
-impl<R: Print + Eprint> Sink for TerminalSink<'_, '_, R> {
-    ghost written = { λ _. None };
+impl<R: Eprint, S: Sink> Sink for TerminalSink<'_, '_, R, S> {
+    ghost written = { λ one. S.written one.sink };
 
-    ghost faults = { λ sink. failed_puts sink.real };
+    ghost faults = { λ one. S.faults one.sink };
 
     fn put(&mut self, bytes: &[u8]) -> Result<(), IoErr> {
         self.screen.clear();
-        self.real.put(bytes)?;
+        self.sink.put(bytes)?;
         if self.screen.is_on() {
             self.beginning.note_piece(bytes, self.screen);
         }

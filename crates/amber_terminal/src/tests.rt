@@ -41,6 +41,8 @@ fn each_error_line_has_its_sentence(rt: HostRuntime) -> Result<(), Fail> {
         "error 2 flow 0 LogName\n",
         "error 4 read my orders.csv\n",
         "error 5 log write\n",
+        "error 7 log 10 Text\n",
+        "error 7 log 2 Illegal\n",
         "error 8 long\n",
         "error 9 large input\n",
         "error 10 memory\n",
