@@ -47,7 +47,7 @@ fn bounded(alloc: Global, name: &str, most: u64, bytes: Vec<u8>) -> Result<Bytes
 }
 
 /// All bytes of a file, which has at most `most`.
-pub(crate) fn load<W: Outside>(
+pub fn load<W: Outside>(
     alloc: Global,
     name: &str,
     most: u64,
@@ -83,11 +83,7 @@ fn read(alloc: Global, bytes: &Bytes) -> Result<Flow, Failure>
 }
 
 /// The workflow in a file.
-pub(crate) fn load_flow<W: Outside>(
-    alloc: Global,
-    name: &str,
-    outside: &mut W,
-) -> Result<Flow, Failure>
+pub fn load_flow<W: Outside>(alloc: Global, name: &str, outside: &mut W) -> Result<Flow, Failure>
     ensures course { Follows result (workflow_in name.now) (W.world outside.old)
         (W.world outside.new) }
     ensures named { IfErr result (λ failure. Names failure (λ file. file ≡ name.now)) }

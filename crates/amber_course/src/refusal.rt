@@ -36,8 +36,8 @@ fn put_text_line<W: Outside>(outside: &mut W, words: &[u8], text: &str) -> Resul
     put_piece(outside, b"\n")
 }
 
-// The line for a workflow or a script: these words, a number and the reason. It takes no memory.
-fn put_reason_line<W: Outside>(
+/// The line for a workflow, a script or a log: these words, a number and the reason. It takes no memory.
+pub fn put_reason_line<W: Outside>(
     outside: &mut W,
     words: &[u8],
     number: u64,

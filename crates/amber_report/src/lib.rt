@@ -25,11 +25,13 @@ pub mod answer_text;
 mod conditions;
 pub mod inspect;
 pub mod ok;
+pub mod script;
 pub mod stops;
 mod words;
 
 pub use answer_text::answer_lines;
 pub use inspect::inspect_lines;
 pub use ok::ok_line;
+pub use script::push_script_line;
 pub use std::alloc::AllocError as NoMemory;
 pub use stops::stop_lines;

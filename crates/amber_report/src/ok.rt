@@ -12,8 +12,8 @@ use amber_log::{Action, Argument, Command, Effect, Reply};
 use amber_rows::{Bytes, Flow, Row, row_text};
 use std::alloc::{AllocError, Global};
 
-// A blank before each word.
-fn push_words(text: &mut Vec<u8>, words: &[&[u8]]) -> Result<(), AllocError>
+/// A blank before each word.
+pub(crate) fn push_words(text: &mut Vec<u8>, words: &[&[u8]]) -> Result<(), AllocError>
     ensures { OnOk result (text.new.items
         ≡ text.old.items ++ flat_map after_blank (map (λ w. w.now) words.now)) }
 {
@@ -23,8 +23,8 @@ fn push_words(text: &mut Vec<u8>, words: &[&[u8]]) -> Result<(), AllocError>
     Ok(())
 }
 
-// What a command says beside its operator.
-fn push_argument(
+/// What a command says beside its operator.
+pub(crate) fn push_argument(
     text: &mut Vec<u8>,
     flow: &Flow,
     op: u32,

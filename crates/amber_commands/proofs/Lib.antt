@@ -1,0 +1,10 @@
+pub mod Commanding
+pub mod Ending
+pub mod Leading
+pub mod Lengths
+pub mod Naming
+pub mod ReadBack
+pub mod Reporting
+pub mod Spelling
+pub mod Texting
+pub mod Valued

@@ -1,0 +1,5 @@
+pub mod Answered
+pub mod Commands
+pub mod Course
+pub mod Laws
+pub mod Refusal
