@@ -6,6 +6,7 @@
 #![tactic(auto)]
 
 mod report;
+mod session_call;
 mod trial;
 
 use amber_case_text::Reader;

@@ -1,9 +1,10 @@
 //! The runs of a case. Over `Case` of `amber_case_text`, on the folder and the sink in memory of `amber_io`.
 
+use crate::session_call::call_session;
 use amber_case_text::{Case, CaseText, Left, compare_answer, compare_bytes};
 use amber_io::{Fails, MemFolder, MemSink, NamedFiles, Numbers};
 use amber_mail::OpenGate;
-use amber_run::{Printed, amber};
+use amber_run::{Printed, Status, amber};
 use std::alloc::{AllocError, Global};
 use std::thread::Threads;
 
@@ -15,7 +16,7 @@ struct Given {
     out: MemSink,
 }
 
-// Runs the top call: this is the one place that calls it.
+// Runs the top call, or a session: this is the one place that calls them.
 fn call<R: Threads + Sync>(
     rt: &R,
     alloc: Global,
@@ -23,21 +24,28 @@ fn call<R: Threads + Sync>(
     mut folder: MemFolder,
     mut out: MemSink,
 ) -> Given {
-    let mut printed = Printed::new();
-    let status = amber(
-        rt,
-        alloc,
-        words,
-        &mut folder,
-        &mut out,
-        &mut printed,
-        &OpenGate,
-    );
+    let status = match words {
+        [form, words @ ..] if form.as_str() == "session" => {
+            call_session(rt, alloc, words, &mut folder, &mut out)
+        }
+        _ => call_amber(rt, alloc, words, &mut folder, &mut out),
+    };
     Given {
         status: status.code(),
         folder,
         out,
     }
+}
+
+fn call_amber<R: Threads + Sync>(
+    rt: &R,
+    alloc: Global,
+    words: &[String],
+    folder: &mut MemFolder,
+    out: &mut MemSink,
+) -> Status {
+    let mut printed = Printed::new();
+    amber(rt, alloc, words, folder, out, &mut printed, &OpenGate)
 }
 
 /// What differs first in the runs of a case: one for each of its words and of the numbers of bytes that
