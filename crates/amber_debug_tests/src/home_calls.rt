@@ -40,7 +40,8 @@ pub fn home_of<R: Threads + Sync>(
     Ok(home)
 }
 
-/// The home of the query with so many workers for the scan, with 10 rows in a batch and at most 10,000 steps.
+/// The home of the query with so many workers for the scan, with 10 rows in a batch and at most 10,000,000 steps: so many that a
+/// round has as many slices as it ever has.
 pub fn home_with<R: Threads + Sync>(
     rt: &R,
     alloc: Global,
@@ -52,7 +53,7 @@ pub fn home_with<R: Threads + Sync>(
 {
     let flow = query_by(alloc, scans)?;
     let files = files_of(alloc, file)?;
-    let home = Home::new(rt, alloc, flow, files, 10, 10_000, 1)?;
+    let home = Home::new(rt, alloc, flow, files, 10, 10_000_000, 1)?;
     Ok(home)
 }
 
