@@ -253,7 +253,7 @@ fn units_are_divided_in_the_first_round(rt: HostRuntime) -> Result<(), Fail> {
     let mut told = String::new(alloc);
     for _ in 0..TRIES {
         told = counted_text(&rt, alloc, 3, &holds)?;
-        if told == "stop count all 80\nalone 0" {
+        if told.as_str() == "stop count all 80\nalone 0" {
             return Ok(());
         }
     }
