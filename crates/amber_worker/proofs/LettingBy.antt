@@ -10,28 +10,6 @@ use Rattle.amber_worker.specs.Steps.{passed_of}
 use Rattle.amber_worker.specs.declared.letting_by.Gate.{Gate}
 use Rattle.amber_worker.specs.declared.taking_rows.Fate.{Fate}
 
--- with nothing waved on all rows have to pass
-all-pass : (when : Option Cond) (rows : List (List Value)) → list_all (λ other. not (is_watched when other)) rows ≡ pass_by when false rows
-all-pass when [] = refl
-all-pass when (row ∷ rows) = refl
-
--- no row is to be emitted any more
-pub lets-none : (when : Option Cond) (gate : Gate) (row : List Value) (later : List (List Value)) → gate.left ≡ 0 → lets_by when gate later ≡ lets_by when gate (row ∷ later)
-lets-none when gate row later none = ap (λ n. pass_by when gate.waved (take n later)) none ∙ sym (ap (λ n. pass_by when gate.waved (take n (row ∷ later))) none)
-
--- the next row is to be emitted, and it passes or not
-pub lets-next : (when : Option Cond) (left : ℕ) (waved : Bool) (next : Gate) (row : List Value) (later : List (List Value)) (passes : Bool) → 0 < left → next.left ≡ left - 1 → next.waved ≡ false
-    → passes ≡ (waved || not (is_watched when row)) → (passes && lets_by when next later) ≡ pass_by when waved (take left (row ∷ later))
-lets-next when zero waved next row later passes some less unwaved so = absurd (omega arith)
-lets-next when (suc n) true next row later passes some less unwaved so =
-    let left : next.left ≡ n = omega (arith, less) in
-    ap (λ b. b && lets_by when next later) so ∙ (λ i. pass_by when (unwaved i) (take (left i) later)) ∙ sym (all-pass when (take n later))
-lets-next when (suc n) false next row later passes some less unwaved so =
-    let left : next.left ≡ n = omega (arith, less) in
-    ap (λ b. b && lets_by when next later) so
-    ∙ (λ i. not (is_watched when row) && pass_by when (unwaved i) (take (left i) later))
-    ∙ ap (λ b. not (is_watched when row) && b) (sym (all-pass when (take n later)))
-
 -- one row more of a list
 pub rows-step : (when : Option Cond) (gate next : Gate) (rows : List (List Value)) (i : ℕ) (row : List Value) (passes : Bool) → i < length rows → row ≡ get_or rows i row
     → ((later : List (List Value)) → (passes && lets_by when next later) ≡ lets_by when gate (row ∷ later))
@@ -56,9 +34,6 @@ fates-step when gate next fates rows i fate row passes less there is_fate is_row
     ∙ ap (λ l. lets_by when gate (l ++ later)) (passed-at fates rows i fate row less there is_fate is_row)
 
 -- none is left
-pub rows-end : (rows : List (List Value)) (i : ℕ) → length rows ≤ i → (later : List (List Value)) → drop i rows ++ later ≡ later
-rows-end rows i past later = ap (λ l. l ++ later) (drop_all i rows past)
-
 pub fates-end : (fates : List Fate) (rows : List (List Value)) (i : ℕ) → length fates ≤ i → (later : List (List Value)) → passed_by (drop i fates) (drop i rows) ++ later ≡ later
 unfolding passed_by
 fates-end fates rows i past later = ap (λ (l : List Fate). passed_by l (drop i rows) ++ later) (drop_all i fates past)

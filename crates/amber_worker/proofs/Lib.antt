@@ -32,10 +32,8 @@ pub mod Told
 pub mod Dealings
 pub mod Commands
 pub mod Replaced
-pub mod Emitted
 pub mod LinesNoted
 pub mod LinesFinish
-pub mod LinesOuts
 pub mod LinesTake
 pub mod Roomless
 pub mod PairFacts

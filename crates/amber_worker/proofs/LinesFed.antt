@@ -1,5 +1,5 @@
 -- What a worker becomes of which the rows of a line were fed to groups, or given to a join.
-use Rattle.std.proofs.Common.{◌≡◌, ◌≢◌, ℕ, ◌+◌, ◌-◌, ◌≤◌, eqb, ◌&&◌, Bool, true, false, cond, if◌then◌else◌, filter, List, [], ◌∷◌, ◌++◌, length, map, take, drop, Option, Some, None, Result, Ok, Err, refl, sym, ap, ◌∙◌, append-nil, arith, subst}
+use Rattle.std.proofs.Common.{◌≡◌, ◌≢◌, ℕ, ◌+◌, ◌-◌, ◌≤◌, Bool, true, false, cond, if◌then◌else◌, filter, List, [], ◌∷◌, ◌++◌, length, map, take, drop, Option, Some, None, Result, Ok, Err, refl, sym, ap, ◌∙◌, append-nil, arith, subst}
 use Rattle.std.specs.Option.{IfSome}
 use Rattle.std.specs.Result.{IfOk}
 use Rattle.std.proofs.lemmas.Bool.{false≢true}
@@ -11,22 +11,18 @@ use Rattle.amber_rows.specs.declared.column.Column.{Column}
 use Rattle.amber_group.specs.Feeding.{FeedsEach}
 use Rattle.amber_group.specs.Group.{FeedsRow, Group, IsFedWith}
 use Rattle.amber_log.specs.declared.entry.Entry.{Entry}
-use Rattle.amber_log.specs.declared.entry.Entry.TheVariants as entry
 use Rattle.amber_meaning.specs.Refused.{refused_in}
 use Rattle.amber_meaning.specs.Task.{Arrival, row_in}
 use Rattle.amber_scan.specs.Shares.{ShareState}
-use Rattle.amber_link.specs.declared.upstreams.Upstream.{Upstream}
 use Rattle.amber_link.specs.declared.downstreams.Downstream.{Downstream}
-use Rattle.amber_worker.specs.Emitting.{EmitsMany}
-use Rattle.amber_worker.specs.Fields.{AreFew, IsInOrder, WorkerFields, arrivals_in, rest_in, row_from}
-use Rattle.amber_worker.specs.RedoneRows.{AreHandedOn, BecomesTaking, BecomesWith, GoesOn, MayGoOn, MayNotGo, Offer, ends_with, kept_by, offered, yielded, yielded_by}
+use Rattle.amber_worker.specs.Fields.{arrivals_in, rest_in, row_from}
+use Rattle.amber_worker.specs.RedoneRows.{BecomesTaking, BecomesWith, MayGoFrom, MayGoOn, MayNotGo, Offer, ends_with, kept_by, offered, yielded, yielded_by}
 use Rattle.amber_worker.specs.Steps.{Closes, Feeds, GivesGroups, columns_at_hand, gives_if, is_group, keeps_if}
 use Rattle.amber_worker.specs.WorkerState.{WorkerState}
 use Rattle.amber_worker.specs.declared.operator_state.OperatorState.{OperatorState}
 use Rattle.amber_worker.specs.declared.operator_state.OperatorState.TheVariants as operator_state
 use Rattle.amber_worker.specs.declared.taking_rows.Rest.{Rest}
 use Rattle.amber_worker.specs.declared.redone_rows.RowsLine.{RowsLine}
-use Rattle.amber_worker.proofs.LinesTaken.{gone-many}
 use Rattle.amber_worker.proofs.ReadiedFacts.{arrivals-batch, flat-none, rows-refused}
 use Rattle.amber_worker.proofs.RowsGone.{given-so}
 
@@ -76,48 +72,16 @@ made-not line w before made now makes never = record {
   never = λ may. never (subst (MayGoOn line) (sym (same-offer line w before made now makes)) may);
 }
 
--- it was done
-pub made-goes : (line : RowsLine) (w : WorkerState) (before : ℕ) (made : List (List Value)) (now : OperatorState) (rest : List Arrival) (pending : List (List Value)) (outs written : List Downstream) (journal : List Entry) (waved : Bool)
-    → Makes line w before made now → MayGoOn line (offer_of before made w) → rest ≡ drop line.rows w.rest
-    → EmitsMany w.route line.outs (record { pending = w.pending ++ made; outs = w.outs }) (record { pending = pending; outs = outs }) → written ≡ outs
-    → journal ≡ w.journal ++ entry.Go line.rows line.outs ∷ [] → waved ≡ (w.restraint.waved && eqb line.outs 0)
-    → GoesOn line w (record w {
-      operator_state = now;
-      rest = rest;
-      pending = pending;
-      taken = w.taken + line.rows;
-      emitted = w.emitted + line.outs;
-      restraint = record w.restraint { waved = waved };
-      outs = written;
-      journal = journal;
-    })
-made-goes line w before made now rest pending outs written journal waved makes may rest_is emits written_is journal_is waved_is =
-    let gone = gone-many w.route line.outs (record { pending = w.pending ++ made; outs = w.outs }) (record { pending = pending; outs = outs }) emits in
-    let all : w.pending ++ made ≡ w.pending ++ (yielded line.rows w ++ makes.last) = ap (λ l. w.pending ++ l) makes.made_so in
-    let pending_is = gone.pending ∙ ap (drop line.outs) all in
-    let refused : w.refused ≡ w.refused ++ refused_in w.op (take line.rows w.rest) = sym (ap (λ l. w.refused ++ l) makes.refused ∙ append-nil w.refused) in
-    let kept : w.kept ≡ w.kept ++ kept_by w.operator_state (columns_at_hand w) (take line.rows w.rest) = sym (ap (λ l. w.kept ++ l) makes.kept ∙ append-nil w.kept) in
-    record {
-      now = now;
-      becomes = makes.becomes;
-      last = makes.last;
-      closes = makes.closes;
-      may = subst (MayGoOn line) (same-offer line w before made now makes) may;
-      outs = outs;
-      handed = subst (λ l. AreHandedOn w.route (take line.outs l) w.outs outs) all gone.handed;
-      after = λ i. record w {
-        operator_state = now;
-        rest = rest_is i;
-        pending = pending_is i;
-        taken = w.taken + line.rows;
-        emitted = w.emitted + line.outs;
-        refused = refused i;
-        kept = kept i;
-        restraint = record w.restraint { waved = waved_is i };
-        outs = written_is i;
-        journal = journal_is i;
-      };
-    }
+-- it may be done, and so much is there to be emitted then
+pub made-may : (line : RowsLine) (w : WorkerState) (before : ℕ) (made : List (List Value)) (now : OperatorState) (makes : Makes line w before made now) → MayGoOn line (offer_of before made w) → MayGoFrom line makes.last w
+made-may line w before made now makes may = subst (MayGoOn line) (same-offer line w before made now makes) may
+
+pub made-filled : (line : RowsLine) (w : WorkerState) (before : ℕ) (made : List (List Value)) (now : OperatorState) (makes : Makes line w before made now) → w.pending ++ made ≡ w.pending ++ (yielded line.rows w ++ makes.last)
+made-filled line w before made now makes = ap (λ l. w.pending ++ l) makes.made_so
+
+-- nothing is refused or kept for the answer
+pub same-behind : {A : Type 0} (old more : List A) → more ≡ [] → old ≡ old ++ more
+same-behind old more none = sym (ap (λ l. old ++ l) none ∙ append-nil old)
 
 -- ---- groups
 

@@ -9,8 +9,8 @@ use Rattle.amber_link.specs.declared.downstreams.Downstream.{Downstream}
 use Rattle.amber_link.proofs.SameEnds.{ended-ends, senders-same}
 use Rattle.amber_link.proofs.Sides.{looked-same, pairwise-refl}
 use Rattle.amber_worker.specs.Fields.{rows_moved}
-use Rattle.amber_worker.specs.Redoable.{is_through, may_finish}
-use Rattle.amber_worker.specs.Redoing.{CannotRedo, HasRedone, LogLine, NeverMeets, StandsAfter, before_line, hand_before, line_of}
+use Rattle.amber_worker.specs.Redoable.{finishes_again, is_through}
+use Rattle.amber_worker.specs.Redoing.{CannotRedo, HasRedone, LogLine, NeverMeets, StandsAfterLine, before_line, hand_before, log_line}
 use Rattle.amber_worker.specs.Steps.{Finishes, all_done}
 use Rattle.amber_worker.specs.WorkerState.{IsUnrestrained, WorkerState, stands_still}
 use Rattle.amber_worker.specs.declared.redoing.Armed.{Armed}
@@ -45,11 +45,11 @@ works-free line w free few = record { unfinished = free.unfinished; running = fr
 
 -- ---- the end
 
-finish-stands : (w : WorkerState) (outs : List Downstream) (armed : Option Armed) → may_finish w ≡ true → All (λ one. rows_moved one < 2 ^ 63) w.journal → AreEnded w.outs outs
-    → StandsAfter (line_of entry.Finish armed) w.ins w (all_done outs w)
-unfolding StandsAfter
+finish-stands : (w : WorkerState) (outs : List Downstream) (armed : Option Armed) → finishes_again w ≡ true → All (λ one. rows_moved one < 2 ^ 63) w.journal → AreEnded w.outs outs
+    → StandsAfterLine (log_line entry.Finish armed) w.ins w (all_done outs w)
+unfolding StandsAfterLine
 finish-stands w outs armed may few ends context start p counted stands =
-    let line = line_of entry.Finish armed in
+    let line = log_line entry.Finish armed in
     let parts = and_parts (is_through w) _ may in
     let through = through-parts w parts.0 in
     let works = works-free line w through.free few in
@@ -62,9 +62,9 @@ finish-stands w outs armed may few ends context start p counted stands =
       },
     )
 
-pub finish-done : (w new : WorkerState) (armed : Option Armed) → may_finish w ≡ true → All (λ one. rows_moved one < 2 ^ 63) w.journal → Finishes w new
-    → HasRedone (line_of entry.Finish armed) w new
-finish-done w new armed may few finishes = subst (HasRedone (line_of entry.Finish armed) w) (sym finishes.after) (record {
+pub finish-done : (w new : WorkerState) (armed : Option Armed) → finishes_again w ≡ true → All (λ one. rows_moved one < 2 ^ 63) w.journal → Finishes w new
+    → HasRedone (log_line entry.Finish armed) w new
+finish-done w new armed may few finishes = subst (HasRedone (log_line entry.Finish armed) w) (sym finishes.after) (record {
   found = w.ins;
   looked = pairwise-refl IsLooked looked-same w.ins;
   stands = finish-stands w finishes.outs armed may few finishes.ends;
@@ -77,10 +77,10 @@ finish-done w new armed may few finishes = subst (HasRedone (line_of entry.Finis
   turned = refl;
 })
 
-pub finish-cannot : (w : WorkerState) (armed : Option Armed) → may_finish w ≡ false → CannotRedo (line_of entry.Finish armed) w w
+pub finish-cannot : (w : WorkerState) (armed : Option Armed) → finishes_again w ≡ false → CannotRedo (log_line entry.Finish armed) w w
 unfolding NeverMeets
-finish-cannot w armed may = cannot-redo (line_of entry.Finish armed) w (λ context p counted shows meets.
-    let b = before_line (line_of entry.Finish armed) w in
+finish-cannot w armed may = cannot-redo (log_line entry.Finish armed) w (λ context p counted shows meets.
+    let b = before_line (log_line entry.Finish armed) w in
     let still : stands_still w ≡ false = free-still context b p shows meets.may.free in
     let pending : w.pending ≡ [] = shows.pending ∙ meets.may.no_pending in
     let rest : w.rest ≡ [] = shows.rest ∙ meets.may.no_rest in

@@ -13,8 +13,8 @@ use Rattle.amber_link.proofs.SameEnds.{receivers-same, senders-same}
 use Rattle.amber_link.proofs.Sides.{looked-same, pairwise-refl}
 use Rattle.amber_link.specs.Sides.{IsLooked}
 use Rattle.amber_worker.specs.AtPosition.{Context, IsAtPosition, Shows}
-use Rattle.amber_worker.specs.Redoable.{lacks_units, may_grant, may_hold, may_pause, may_resume}
-use Rattle.amber_worker.specs.Redoing.{CannotRedo, HasRedone, LogLine, MeetsRule, NeverMeets, StandsAfter, before_line, hand_after, hand_before, line_of, offered_to, with_hand}
+use Rattle.amber_worker.specs.Redoable.{claims_again, holds_again, lacks_units, pauses_again, resumes_again}
+use Rattle.amber_worker.specs.Redoing.{CannotRedo, HasRedone, LogLine, MeetsRule, NeverMeets, StandsAfterLine, before_line, hand_after, hand_before, log_line, offered_to, with_hand}
 use Rattle.amber_worker.specs.WorkerState.{IsUnrestrained, WorkerState, must_hold, stands_still}
 use Rattle.amber_worker.specs.declared.redoing.Armed.{Armed}
 use Rattle.amber_worker.proofs.Apart.{shows-apart}
@@ -62,8 +62,8 @@ AlwaysMeets line w = (context : Context) (p : Position) → context.orders.count
 module _ (line : LogLine) (w : WorkerState) (restraint : Restraint) (follow : Restraint → Restraint)
     (lands : (orders : Orders) (offered : Option Batch) (p : Position) → position_after orders offered line.entry p ≡ record p { restraint = follow p.restraint })
     (same : record restraint { hand = hand_after line } ≡ follow (record w.restraint { hand = hand_before line.armed })) where
-  stands-noted : IsEntry line.entry → is_go line.entry ≡ false → AlwaysMeets line w → StandsAfter line w.ins w (noted line.entry restraint w)
-  unfolding StandsAfter
+  stands-noted : IsEntry line.entry → is_go line.entry ≡ false → AlwaysMeets line w → StandsAfterLine line w.ins w (noted line.entry restraint w)
+  unfolding StandsAfterLine
   stands-noted entry other rule context start p counted stands =
       let meets = rule context p counted stands.shows in
       let at : Position → Type 0 = λ q. IsAtPosition context (with_hand (hand_after line) (noted line.entry restraint w)) start q in (
@@ -99,10 +99,10 @@ cannot-redo line w never = record { looked = looked-none w w refl; never = never
 
 -- ---- a pause
 
-pub pause-done : (w : WorkerState) (armed : Option Armed) → may_pause w ≡ true → HasRedone (line_of entry.Pause armed) w (noted entry.Pause (record w.restraint { paused = true }) w)
+pub pause-done : (w : WorkerState) (armed : Option Armed) → pauses_again w ≡ true → HasRedone (log_line entry.Pause armed) w (noted entry.Pause (record w.restraint { paused = true }) w)
 pause-done w armed may =
     let parts = and_parts (not w.finished) _ may in
-    redone-noted (line_of entry.Pause armed) w (record w.restraint { paused = true }) (λ r. record r { paused = true }) (λ orders offered p. refl) refl tt refl
+    redone-noted (log_line entry.Pause armed) w (record w.restraint { paused = true }) (λ r. record r { paused = true }) (λ orders offered p. refl) refl tt refl
     (λ context p counted shows. record {
       may = record {
         running = ap (λ (r : Restraint). r.paused) (sym shows.restraint) ∙ not-true w.restraint.paused parts.1;
@@ -112,21 +112,21 @@ pause-done w armed may =
     })
     (λ none. ap hand_before none)
 
-pub pause-cannot : (w : WorkerState) (armed : Option Armed) → may_pause w ≡ false → CannotRedo (line_of entry.Pause armed) w w
+pub pause-cannot : (w : WorkerState) (armed : Option Armed) → pauses_again w ≡ false → CannotRedo (log_line entry.Pause armed) w w
 unfolding NeverMeets
-pause-cannot w armed may = cannot-redo (line_of entry.Pause armed) w (λ context p counted shows meets.
-    let b = before_line (line_of entry.Pause armed) w in
+pause-cannot w armed may = cannot-redo (log_line entry.Pause armed) w (λ context p counted shows meets.
+    let b = before_line (log_line entry.Pause armed) w in
     let unfinished : w.finished ≡ false = unfinished-shown context b p shows meets.may.unfinished in
     let running : w.restraint.paused ≡ false = restraint-shown (λ r. r.paused) context b p false shows meets.may.running in
     false≢true (sym may ∙ rw (unfinished, running) refl))
 
 -- ---- it goes on
 
-pub resume-done : (w : WorkerState) (armed : Option Armed) → may_resume w ≡ true → HasRedone (line_of entry.Resume armed) w (noted entry.Resume (record w.restraint { paused = false }) w)
+pub resume-done : (w : WorkerState) (armed : Option Armed) → resumes_again w ≡ true → HasRedone (log_line entry.Resume armed) w (noted entry.Resume (record w.restraint { paused = false }) w)
 resume-done w armed may =
     let parts = and_parts w.restraint.paused _ may in
     let more = and_parts (not w.finished) _ parts.1 in
-    redone-noted (line_of entry.Resume armed) w (record w.restraint { paused = false }) (λ r. record r { paused = false }) (λ orders offered p. refl) refl tt refl
+    redone-noted (log_line entry.Resume armed) w (record w.restraint { paused = false }) (λ r. record r { paused = false }) (λ orders offered p. refl) refl tt refl
     (λ context p counted shows. record {
       may = record {
         paused = ap (λ (r : Restraint). r.paused) (sym shows.restraint) ∙ parts.0;
@@ -137,10 +137,10 @@ resume-done w armed may =
     })
     (λ none. ap hand_before none)
 
-pub resume-cannot : (w : WorkerState) (armed : Option Armed) → may_resume w ≡ false → CannotRedo (line_of entry.Resume armed) w w
+pub resume-cannot : (w : WorkerState) (armed : Option Armed) → resumes_again w ≡ false → CannotRedo (log_line entry.Resume armed) w w
 unfolding NeverMeets
-resume-cannot w armed may = cannot-redo (line_of entry.Resume armed) w (λ context p counted shows meets.
-    let b = before_line (line_of entry.Resume armed) w in
+resume-cannot w armed may = cannot-redo (log_line entry.Resume armed) w (λ context p counted shows meets.
+    let b = before_line (log_line entry.Resume armed) w in
     let unfinished : w.finished ≡ false = unfinished-shown context b p shows meets.may.unfinished in
     let paused : w.restraint.paused ≡ true = restraint-shown (λ r. r.paused) context b p true shows meets.may.paused in
     let loose : w.restraint.held ≡ false = restraint-shown (λ r. r.held) context b p false shows meets.may.loose in
@@ -157,14 +157,14 @@ pub lacks-none : (armed : Option Armed) (n : ℕ) → (is_some armed ≡ true �
 lacks-none None n enough = refl
 lacks-none (Some armed) n enough = le-ltb armed.hand n (enough refl)
 
-pub hold-done : (w : WorkerState) (armed : Option Armed) → may_hold armed w ≡ true → HasRedone (line_of entry.Hold armed) w (noted entry.Hold (record w.restraint { held = true }) w)
+pub hold-done : (w : WorkerState) (armed : Option Armed) → holds_again armed w ≡ true → HasRedone (log_line entry.Hold armed) w (noted entry.Hold (record w.restraint { held = true }) w)
 hold-done w armed may =
     let both = and_parts (not (stands_still w) && must_hold w) _ may in
     let parts = and_parts (not (stands_still w)) _ both.0 in
     let free = still-free w (not-true (stands_still w) parts.0) in
     let must = and_parts (not w.restraint.waved) (first_is_watched w.when w.pending) parts.1 in
     let enough = has-units armed 1 (not-true (lacks_units armed 1) both.1) in
-    redone-noted (line_of entry.Hold armed) w (record w.restraint { held = true }) (λ r. record r { held = true }) (λ orders offered p. refl) refl tt refl
+    redone-noted (log_line entry.Hold armed) w (record w.restraint { held = true }) (λ r. record r { held = true }) (λ orders offered p. refl) refl tt refl
     (λ context p counted shows. record {
       may = record {
         free = record {
@@ -180,10 +180,10 @@ hold-done w armed may =
     })
     (λ none. ap hand_before none)
 
-pub hold-cannot : (w : WorkerState) (armed : Option Armed) → may_hold armed w ≡ false → CannotRedo (line_of entry.Hold armed) w w
+pub hold-cannot : (w : WorkerState) (armed : Option Armed) → holds_again armed w ≡ false → CannotRedo (log_line entry.Hold armed) w w
 unfolding NeverMeets
-hold-cannot w armed may = cannot-redo (line_of entry.Hold armed) w (λ context p counted shows meets.
-    let b = before_line (line_of entry.Hold armed) w in
+hold-cannot w armed may = cannot-redo (log_line entry.Hold armed) w (λ context p counted shows meets.
+    let b = before_line (log_line entry.Hold armed) w in
     let still : stands_still w ≡ false = free-still context b p shows meets.may.free in
     let unwaved : w.restraint.waved ≡ false = restraint-shown (λ r. r.waved) context b p false shows meets.may.not_waved in
     let watched : first_is_watched w.when w.pending ≡ true = rw (shows.when, shows.pending) meets.may.watched in
@@ -192,21 +192,21 @@ hold-cannot w armed may = cannot-redo (line_of entry.Hold armed) w (λ context p
 
 -- ---- units
 
-pub grant-done : (w : WorkerState) (n : ℕ) (armed : Option Armed) → 0 < n → n < 2 ^ 64 → may_grant armed w ≡ true
-    → HasRedone (line_of (entry.Grant n) armed) w (noted (entry.Grant n) w.restraint w)
+pub grant-done : (w : WorkerState) (n : ℕ) (armed : Option Armed) → 0 < n → n < 2 ^ 64 → claims_again armed w ≡ true
+    → HasRedone (log_line (entry.Grant n) armed) w (noted (entry.Grant n) w.restraint w)
 grant-done w n armed some few may =
     let parts = and_parts (is_some armed) _ may in
-    redone-noted (line_of (entry.Grant n) armed) w w.restraint (λ r. record r { hand = r.hand + n }) (λ orders offered p. refl) refl (some, few) refl
+    redone-noted (log_line (entry.Grant n) armed) w w.restraint (λ r. record r { hand = r.hand + n }) (λ orders offered p. refl) refl (some, few) refl
     (λ context p counted shows. record {
       may = record { counted = counted ∙ parts.0; unfinished = sym shows.finished ∙ not-true w.finished parts.1 };
       there = tt;
     })
     (λ none. absurd (false≢true (ap is_some (sym none) ∙ parts.0)))
 
-pub grant-cannot : (w : WorkerState) (n : ℕ) (armed : Option Armed) → may_grant armed w ≡ false → CannotRedo (line_of (entry.Grant n) armed) w w
+pub grant-cannot : (w : WorkerState) (n : ℕ) (armed : Option Armed) → claims_again armed w ≡ false → CannotRedo (log_line (entry.Grant n) armed) w w
 unfolding NeverMeets
-grant-cannot w n armed may = cannot-redo (line_of (entry.Grant n) armed) w (λ context p counted shows meets.
-    let unfinished : w.finished ≡ false = unfinished-shown context (before_line (line_of (entry.Grant n) armed) w) p shows meets.may.unfinished in
+grant-cannot w n armed may = cannot-redo (log_line (entry.Grant n) armed) w (λ context p counted shows meets.
+    let unfinished : w.finished ≡ false = unfinished-shown context (before_line (log_line (entry.Grant n) armed) w) p shows meets.may.unfinished in
     let some : is_some armed ≡ true = sym counted ∙ meets.may.counted in
     false≢true (sym may ∙ rw (some, unfinished) refl))
 
@@ -215,9 +215,9 @@ armed-hand None some = absurd (omega (arith, some))
 armed-hand (Some armed) some = refl
 
 pub back-done : (w : WorkerState) (n : ℕ) (armed : Option Armed) → 0 < n → n < 2 ^ 64 → hand_before armed ≡ n
-    → HasRedone (line_of (entry.Back n) armed) w (noted (entry.Back n) w.restraint w)
+    → HasRedone (log_line (entry.Back n) armed) w (noted (entry.Back n) w.restraint w)
 back-done w n armed some few whole =
-    redone-noted (line_of (entry.Back n) armed) w w.restraint (λ r. record r { hand = 0 }) (λ orders offered p. refl) refl (some, few) refl
+    redone-noted (log_line (entry.Back n) armed) w w.restraint (λ r. record r { hand = 0 }) (λ orders offered p. refl) refl (some, few) refl
     (λ context p counted shows. record {
       may = record {
         counted = counted ∙ armed-hand armed (omega (arith, some, whole));
@@ -227,7 +227,7 @@ back-done w n armed some few whole =
     })
     (λ none. refl)
 
-pub back-cannot : (w : WorkerState) (n : ℕ) (armed : Option Armed) → (hand_before armed ≡ n → ⊥) → CannotRedo (line_of (entry.Back n) armed) w w
+pub back-cannot : (w : WorkerState) (n : ℕ) (armed : Option Armed) → (hand_before armed ≡ n → ⊥) → CannotRedo (log_line (entry.Back n) armed) w w
 unfolding NeverMeets
-back-cannot w n armed other = cannot-redo (line_of (entry.Back n) armed) w (λ context p counted shows meets.
+back-cannot w n armed other = cannot-redo (log_line (entry.Back n) armed) w (λ context p counted shows meets.
     other (ap (λ (r : Restraint). r.hand) shows.restraint ∙ sym meets.may.whole))

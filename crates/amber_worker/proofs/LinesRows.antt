@@ -5,7 +5,8 @@ use Rattle.std.specs.Result.{IfOk}
 use Rattle.std.proofs.lemmas.Bool.{true≢false}
 use Rattle.amber_rows.specs.declared.value.Value.{Value}
 use Rattle.amber_rows.specs.declared.column.Column.{Column}
-use Rattle.amber_log.specs.Grammar.{AreEntries}
+use Rattle.amber_log.specs.Grammar.{AreEntries, IsEntry, is_go}
+use Rattle.amber_log.specs.declared.entry.Entry.{Entry}
 use Rattle.amber_log.specs.declared.entry.Entry.TheVariants as entry
 use Rattle.amber_meaning.specs.Position.{Position, Restraint}
 use Rattle.amber_meaning.specs.Rules.{IsFree, restraint_used, with_rows}
@@ -17,8 +18,8 @@ use Rattle.amber_link.proofs.SameEnds.{receivers-same, receivers-then, senders-s
 use Rattle.amber_link.proofs.Sides.{looked-same, pairwise-refl}
 use Rattle.amber_worker.specs.AtPosition.{Context, Shows}
 use Rattle.amber_worker.specs.Links.{number_to}
-use Rattle.amber_worker.specs.Redoing.{CannotRedo, HasRedone, LogLine, NeverMeets, Redoes, StandsAfter, before_line, hand_before, line_of, with_hand}
-use Rattle.amber_worker.specs.RedoneRows.{AreHandedOn, BecomesWith, GoesOn, GoesOrNot, MayNotGo, rows_gone}
+use Rattle.amber_worker.specs.Redoing.{CannotRedo, HasRedone, LogLine, NeverMeets, Redoes, StandsAfterLine, before_line, hand_before, log_line, with_hand}
+use Rattle.amber_worker.specs.RedoneRows.{AreHandedOn, BecomesWith, GoesOrNot, MayNotGo, TakesLine, rows_gone}
 use Rattle.amber_worker.specs.Steps.{columns_at_hand}
 use Rattle.amber_worker.specs.Turning.{constants_in}
 use Rattle.amber_worker.specs.WorkerState.{IsUnrestrained, WorkerState, stands_still}
@@ -78,10 +79,10 @@ module _ (rows outs : ℕ) (armed : Option Armed) (w : WorkerState) (free : IsUn
   line = record { rows = rows; outs = outs; armed = armed }
 
   abbrev again : LogLine
-  again = line_of (entry.Go rows outs) armed
+  again = log_line (entry.Go rows outs) armed
 
-  rows-stand : (new : WorkerState) (goes : GoesOn line w new) → StandsAfter again w.ins w (rows_gone line goes.now goes.last goes.outs w)
-  unfolding StandsAfter
+  rows-stand : (new : WorkerState) (goes : TakesLine line w new) → StandsAfterLine again w.ins w (rows_gone line goes.now goes.last goes.outs w)
+  unfolding StandsAfterLine
   rows-stand new goes context start p counted stands =
       let b = before_line again w in
       let given = given-so rows b goes.now goes.last goes.becomes goes.closes in
@@ -106,7 +107,7 @@ module _ (rows outs : ℕ) (armed : Option Armed) (w : WorkerState) (free : IsUn
         },
       )
 
-  pub rows-done : (new : WorkerState) → GoesOn line w new → HasRedone again w new
+  pub rows-done : (new : WorkerState) → TakesLine line w new → HasRedone again w new
   rows-done new goes = subst (HasRedone again w) (sym goes.after) (record {
     found = w.ins;
     looked = pairwise-refl IsLooked looked-same w.ins;
@@ -123,25 +124,33 @@ module _ (rows outs : ℕ) (armed : Option Armed) (w : WorkerState) (free : IsUn
 -- ---- the line could not be done
 
 pub rows-cannot : (rows outs : ℕ) (armed : Option Armed) (w new : WorkerState) → MayNotGo (record { rows = rows; outs = outs; armed = armed }) w → new ≡ w
-    → CannotRedo (line_of (entry.Go rows outs) armed) w new
+    → CannotRedo (log_line (entry.Go rows outs) armed) w new
 unfolding NeverMeets
 rows-cannot rows outs armed w new may_not same = record {
   looked = looked-none w new same;
   never = λ context p counted shows meets.
-      let b = before_line (line_of (entry.Go rows outs) armed) w in
+      let b = before_line (log_line (entry.Go rows outs) armed) w in
       may_not.never (may-go-back context b p (record { rows = rows; outs = outs; armed = armed }) may_not.last shows (armed-so context.orders.counted armed rows outs w counted)
       (record { none = may_not.gives.none; some = may_not.gives.some }) meets.may);
 }
 
 -- a worker that stands still takes and emits nothing
-pub rows-still : (rows outs : ℕ) (armed : Option Armed) (w : WorkerState) → stands_still w ≡ true → CannotRedo (line_of (entry.Go rows outs) armed) w w
+pub rows-still : (rows outs : ℕ) (armed : Option Armed) (w : WorkerState) → stands_still w ≡ true → CannotRedo (log_line (entry.Go rows outs) armed) w w
 unfolding NeverMeets
-rows-still rows outs armed w still = cannot-redo (line_of (entry.Go rows outs) armed) w (λ context p counted shows meets.
-    true≢false (sym still ∙ free-still context (before_line (line_of (entry.Go rows outs) armed) w) p shows meets.may.free))
+rows-still rows outs armed w still = cannot-redo (log_line (entry.Go rows outs) armed) w (λ context p counted shows meets.
+    true≢false (sym still ∙ free-still context (before_line (log_line (entry.Go rows outs) armed) w) p shows meets.may.free))
 
 -- the line was done, or could not be
 pub rows-redone : {E : Type 0} (rows outs : ℕ) (armed : Option Armed) (w : WorkerState) → IsUnrestrained w → AreEntries false (w.journal ++ entry.Go rows outs ∷ []) → (new : WorkerState) (r : Result Bool E)
-    → IfOk r (GoesOrNot (record { rows = rows; outs = outs; armed = armed }) w new) → IfOk r (Redoes (line_of (entry.Go rows outs) armed) w new)
+    → IfOk r (GoesOrNot (record { rows = rows; outs = outs; armed = armed }) w new) → IfOk r (Redoes (log_line (entry.Go rows outs) armed) w new)
 rows-redone rows outs armed w free text new (Ok true) goes = rows-done rows outs armed w free text new goes
 rows-redone rows outs armed w free text new (Ok false) not = rows-cannot rows outs armed w new not.0 not.1
 rows-redone rows outs armed w free text new (Err e) h = tt
+
+-- ---- the entry
+
+-- the last of entries is one
+pub last-entry : (gone : Bool) (journal : List Entry) (one : Entry) → AreEntries gone (journal ++ one ∷ []) → IsEntry one
+unfolding AreEntries
+last-entry gone [] one text = text.0
+last-entry gone (first ∷ more) one text = last-entry (is_go first) more one text.2

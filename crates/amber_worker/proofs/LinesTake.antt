@@ -19,7 +19,7 @@ use Rattle.amber_link.proofs.Sides.{looked-then, may-wait, pairwise-then}
 use Rattle.amber_worker.specs.AtPosition.{IsAtPosition, IsLookedAt, ReceiveAll}
 use Rattle.amber_worker.specs.Fields.{rows_moved}
 use Rattle.amber_worker.specs.Redoable.{TakesAt, is_through}
-use Rattle.amber_worker.specs.Redoing.{CannotRedo, HasRedone, LogLine, NeverMeets, StandsAfter, batch_from, before_line, hand_before, line_of, next_batch, with_hand}
+use Rattle.amber_worker.specs.Redoing.{CannotRedo, HasRedone, LogLine, NeverMeets, StandsAfterLine, batch_from, before_line, hand_before, log_line, next_batch, with_hand}
 use Rattle.amber_worker.specs.Steps.{batch_taken}
 use Rattle.amber_worker.specs.WorkerState.{WorkerState, stands_still}
 use Rattle.amber_worker.specs.declared.redoing.Armed.{Armed}
@@ -127,12 +127,12 @@ batch-there had taken (sender ∷ senders) (first ∷ front) back one h =
 
 module _ (place : ℕ) (w new : WorkerState) (t : TakesAt place w new) (armed : Option Armed) (through : IsThrough w) (few : All (λ one. rows_moved one < 2 ^ 63) w.journal)
     (next : next_batch t.takes.one ≡ Some t.takes.batch) where
-  take-stands : StandsAfter (line_of (entry.Take t.takes.one.from t.takes.one.taken) armed) t.takes.found w (batch_taken t.takes.one t.takes.batch t.takes.ins t.takes.last w)
-  unfolding StandsAfter
+  take-stands : StandsAfterLine (log_line (entry.Take t.takes.one.from t.takes.one.taken) armed) t.takes.found w (batch_taken t.takes.one t.takes.batch t.takes.ins t.takes.last w)
+  unfolding StandsAfterLine
   take-stands context start p counted stands =
       let one = t.takes.one in
       let batch = t.takes.batch in
-      let this = line_of (entry.Take one.from one.taken) armed in
+      let this = log_line (entry.Take one.from one.taken) armed in
       let seen : WorkerState = record (before_line this w) { ins = t.takes.found } in
       let now = stands-looked context (before_line this w) t.takes.found start p t.takes.looked stands in
       let takes : TakesOne seen one batch t.takes.ins t.takes.last = record { rest = through.rest; pending = through.pending; taken_so = t.takes.taken; closes = t.takes.closes } in
@@ -150,8 +150,8 @@ module _ (place : ℕ) (w new : WorkerState) (t : TakesAt place w new) (armed : 
             }),
       )
 
-  taken-done : HasRedone (line_of (entry.Take t.takes.one.from t.takes.one.taken) armed) w new
-  taken-done = subst (HasRedone (line_of (entry.Take t.takes.one.from t.takes.one.taken) armed) w) (sym t.takes.after) (record {
+  taken-done : HasRedone (log_line (entry.Take t.takes.one.from t.takes.one.taken) armed) w new
+  taken-done = subst (HasRedone (log_line (entry.Take t.takes.one.from t.takes.one.taken) armed) w) (sym t.takes.after) (record {
     found = t.takes.found;
     looked = t.takes.looked;
     stands = take-stands;
@@ -171,16 +171,16 @@ module _ (place : ℕ) (w new : WorkerState) (t : TakesAt place w new) (armed : 
   })
 
 pub take-done : (place from number : ℕ) (w new : WorkerState) (armed : Option Armed) (built : Bool) → IsThrough w → All (λ one. rows_moved one < 2 ^ 63) w.journal → TakesAt place w new
-    → ((d : Upstream) → comes_next built from number (get_or w.ins place d) ≡ true) → HasRedone (line_of (entry.Take from number) armed) w new
+    → ((d : Upstream) → comes_next built from number (get_or w.ins place d) ≡ true) → HasRedone (log_line (entry.Take from number) armed) w new
 take-done place from number w new armed built through few t comes =
     let is = next-is place w new t built from number comes in
     let done = taken-done place w new t armed through few is.next in
-    subst (λ n. HasRedone (line_of (entry.Take from n) armed) w new) is.number_is
-    (subst (λ n. HasRedone (line_of (entry.Take n t.takes.one.taken) armed) w new) is.from_is done)
+    subst (λ n. HasRedone (log_line (entry.Take from n) armed) w new) is.number_is
+    (subst (λ n. HasRedone (log_line (entry.Take n t.takes.one.taken) armed) w new) is.from_is done)
 
 -- after a look
 pub done-looked : (line : LogLine) (old between new : WorkerState) → IsLookedAt old between → HasRedone line between new → HasRedone line old new
-unfolding StandsAfter
+unfolding StandsAfterLine
 done-looked line old between new looked = same-after old between looked (λ b. HasRedone line b new → HasRedone line old new) (λ done. record {
   found = done.found;
   looked = pairwise-then IsLooked looked-then old.ins between.ins done.found looked.looked done.looked;
@@ -202,10 +202,10 @@ done-looked line old between new looked = same-after old between looked (λ b. H
 
 -- ---- the batch could not be taken
 
-pub take-cannot : (w : WorkerState) (from number : ℕ) (armed : Option Armed) → is_through w ≡ false → CannotRedo (line_of (entry.Take from number) armed) w w
+pub take-cannot : (w : WorkerState) (from number : ℕ) (armed : Option Armed) → is_through w ≡ false → CannotRedo (log_line (entry.Take from number) armed) w w
 unfolding NeverMeets
-take-cannot w from number armed may = cannot-redo (line_of (entry.Take from number) armed) w (λ context p counted shows meets.
-    let b = before_line (line_of (entry.Take from number) armed) w in
+take-cannot w from number armed may = cannot-redo (log_line (entry.Take from number) armed) w (λ context p counted shows meets.
+    let b = before_line (log_line (entry.Take from number) armed) w in
     let still : stands_still w ≡ false = free-still context b p shows meets.may.free in
     let pending : w.pending ≡ [] = shows.pending ∙ meets.may.no_pending in
     let rest : w.rest ≡ [] = shows.rest ∙ meets.may.no_rest in
@@ -271,12 +271,12 @@ comes-there had taken from number built (sender ∷ senders) (one ∷ ins) h mem
     by false e there rest = or_right _ _ (rest (ap (λ n. eqb n from) (sym h.0.from) ∙ e) there)
 
 pub take-none : (old between : WorkerState) (from number : ℕ) (armed : Option Armed) → IsLookedAt old between
-    → list_any (comes_next (have_builders_ended between.ins) from number) between.ins ≡ false → CannotRedo (line_of (entry.Take from number) armed) old between
+    → list_any (comes_next (have_builders_ended between.ins) from number) between.ins ≡ false → CannotRedo (log_line (entry.Take from number) armed) old between
 unfolding NeverMeets
 take-none old between from number armed looked none = record {
   looked = looked;
   never = λ context p counted shows meets.
-      let b = before_line (line_of (entry.Take from number) armed) old in
+      let b = before_line (log_line (entry.Take from number) armed) old in
       let now = shows-looked context b between.ins p looked.looked shows in
       let role : Role = context.placement.role in
       let may = meets.may in

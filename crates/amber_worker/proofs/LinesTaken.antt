@@ -1,5 +1,5 @@
 -- What a worker becomes that did a line which takes rows, and when it may not.
-use Rattle.std.proofs.Common.{◌≡◌, ℕ, zero, suc, ◌+◌, ◌-◌, ◌<◌, ◌≤◌, eqb, ◌&&◌, not, List, [], ◌∷◌, ◌++◌, length, take, drop, Option, Some, None, Bool, true, false, refl, sym, ap, ◌∙◌, arith, add-one, length-append, subst}
+use Rattle.std.proofs.Common.{◌≡◌, ℕ, zero, suc, ◌+◌, eqb, ◌&&◌, List, [], ◌∷◌, ◌++◌, take, drop, Option, Some, None, Bool, true, false, refl, sym, ap, ◌∙◌, add-one, subst}
 use Rattle.std.proofs.lemmas.Bool.{false≢true}
 use Rattle.std.proofs.lemmas.List.{append-nil}
 use Rattle.amber_rows.specs.declared.value.Value.{Value}
@@ -13,9 +13,9 @@ use Rattle.amber_link.specs.declared.downstreams.Downstream.{Downstream}
 use Rattle.amber_worker.specs.Emitting.{EmitsMany}
 use Rattle.amber_worker.specs.Fields.{arrivals_in}
 use Rattle.amber_worker.specs.Links.{IsHandedOn, OutputSide, number_to}
-use Rattle.amber_worker.specs.ReadiedRows.{AreReady, HasFed, IsUnfed, Reading, Waiting, keeps_still, offer_to}
-use Rattle.amber_worker.specs.RedoneRows.{AreHandedOn, BecomesTaking, BecomesWith, GoesOn, IsGivenLast, MayGoFrom, MayGoOn, MayNotGo, Offer, ends_with, kept_by, offered, rows_gone, yielded}
-use Rattle.amber_worker.specs.Steps.{Becomes, Closes, built_with, columns_at_hand, is_group, is_plain}
+use Rattle.amber_worker.specs.ReadiedRows.{AreReadied, FeedsReadied, IsUnfed, Reading, StandingBy, keeps_still, offer_to}
+use Rattle.amber_worker.specs.RedoneRows.{AreHandedOn, BecomesTaking, BecomesWith, MayGoFrom, MayGoOn, MayNotGo, TakesLine, ends_with, kept_by, offered, yielded}
+use Rattle.amber_worker.specs.Steps.{Becomes, Closes, built_with, columns_at_hand, is_group}
 use Rattle.amber_worker.specs.WorkerState.{WorkerState}
 use Rattle.amber_worker.specs.declared.operator_state.OperatorState.{OperatorState}
 use Rattle.amber_worker.specs.declared.operator_state.OperatorState.TheVariants as operator_state
@@ -90,7 +90,7 @@ unfed-becomes how before now state still unfed =
     (stays-itself how.state how.builds how.columns (take how.count (arrivals_in before)) still)
 
 -- what is kept once what is ready was fed
-pub fed-becomes : (how : Reading) (before now : Rest) (state : OperatorState) (readied : ReadiedRows) → AreReady how before readied → HasFed how before now state readied
+pub fed-becomes : (how : Reading) (before now : Rest) (state : OperatorState) (readied : ReadiedRows) → AreReadied how before readied → FeedsReadied how before now state readied
     → BecomesWith how.state how.builds how.columns (take how.count (arrivals_in before)) state
 fed-becomes how before now state (readied_rows.Records first made) ready fed = unfed-becomes how before now state (ap (λ d. keeps_still d how.builds) ready.scan) fed
 fed-becomes how before now state (readied_rows.Rows fates) ready fed = unfed-becomes how before now state (plain-still how.state how.builds ready.plain) fed
@@ -102,7 +102,7 @@ fed-becomes how before now state readied_rows.Built ready fed = fed.becomes
 abbrev pub reading_of : RowsLine → WorkerState → Reading
 reading_of line w = record { count = line.rows; columns = columns_at_hand w; builds = w.building; state = w.operator_state }
 
-abbrev pub waiting_of : WorkerState → Waiting
+abbrev pub waiting_of : WorkerState → StandingBy
 waiting_of w = record { pending = w.pending; when = w.when; waved = w.restraint.waved }
 
 same-offer : (w : WorkerState) (line : RowsLine) → offer_to (reading_of line w) w.rest (waiting_of w) ≡ offered [] line.rows w
@@ -147,7 +147,7 @@ gone-more to n old between new row gone first handed =
     }
 
 -- so many were handed on, one after the other
-pub gone-many : (to : Route) (n : ℕ) (old new : OutputSide) → EmitsMany to n old new → AreGone to n old new
+gone-many : (to : Route) (n : ℕ) (old new : OutputSide) → EmitsMany to n old new → AreGone to n old new
 unfolding EmitsMany AreHandedOn
 gone-many to zero old new emits = record { pending = ap (λ (side : OutputSide). side.pending) emits; handed = ap (λ (side : OutputSide). side.outs) (sym emits) }
 gone-many to (suc n) old new (between, emits, one) =
@@ -155,13 +155,24 @@ gone-many to (suc n) old new (between, emits, one) =
 
 -- ---- the line was done
 
-pub goes-on : (w : WorkerState) (line : RowsLine) (now : OperatorState) (rest : List Arrival) (refused : List Refusal) (kept filled pending : List (List Value)) (outs written : List Downstream) (journal : List Entry) (waved : Bool)
-    → is_group w.operator_state ≡ false → BecomesTaking line.rows w now → MayGoOn line (offer_to (reading_of line w) w.rest (waiting_of w))
-    → rest ≡ drop line.rows w.rest → filled ≡ w.pending ++ yielded line.rows w → refused ≡ w.refused ++ refused_in w.op (take line.rows w.rest)
+-- nothing is given at the end
+pub apart-closes : (w : WorkerState) (line : RowsLine) (now : OperatorState) → is_group w.operator_state ≡ false → BecomesTaking line.rows w now → Closes now (ends_with line.rows w) []
+apart-closes w line now apart becomes =
+    closes-nothing now (ends_with line.rows w) (stays-apart w.operator_state now w.building (columns_at_hand w) (take line.rows w.rest) becomes apart)
+
+pub apart-may : (w : WorkerState) (line : RowsLine) → MayGoOn line (offer_to (reading_of line w) w.rest (waiting_of w)) → MayGoFrom line [] w
+apart-may w line may = subst (MayGoOn line) (same-offer w line) may
+
+pub apart-filled : (w : WorkerState) (line : RowsLine) (filled : List (List Value)) → filled ≡ w.pending ++ yielded line.rows w → filled ≡ w.pending ++ (yielded line.rows w ++ [])
+apart-filled w line filled is = is ∙ ap (λ l. w.pending ++ l) (sym (append-nil (yielded line.rows w)))
+
+pub goes-on : (w : WorkerState) (line : RowsLine) (now : OperatorState) (last : List (List Value)) (rest : List Arrival) (refused : List Refusal) (kept filled pending : List (List Value)) (outs written : List Downstream) (journal : List Entry) (waved : Bool)
+    → BecomesTaking line.rows w now → Closes now (ends_with line.rows w) last → MayGoFrom line last w
+    → rest ≡ drop line.rows w.rest → filled ≡ w.pending ++ (yielded line.rows w ++ last) → refused ≡ w.refused ++ refused_in w.op (take line.rows w.rest)
     → kept ≡ w.kept ++ kept_by w.operator_state (columns_at_hand w) (take line.rows w.rest)
     → EmitsMany w.route line.outs (record { pending = filled; outs = w.outs }) (record { pending = pending; outs = outs }) → written ≡ outs
     → journal ≡ w.journal ++ entry.Go line.rows line.outs ∷ [] → waved ≡ (w.restraint.waved && eqb line.outs 0)
-    → GoesOn line w (record w {
+    → TakesLine line w (record w {
       operator_state = now;
       rest = rest;
       pending = pending;
@@ -173,18 +184,17 @@ pub goes-on : (w : WorkerState) (line : RowsLine) (now : OperatorState) (rest : 
       outs = written;
       journal = journal;
     })
-goes-on w line now rest refused kept filled pending outs written journal waved apart becomes may rest_is filled_is refused_is kept_is emits written_is journal_is waved_is =
-    let all : filled ≡ w.pending ++ (yielded line.rows w ++ []) = filled_is ∙ ap (λ l. w.pending ++ l) (sym (append-nil (yielded line.rows w))) in
+goes-on w line now last rest refused kept filled pending outs written journal waved becomes closes may rest_is filled_is refused_is kept_is emits written_is journal_is waved_is =
     let gone = gone-many w.route line.outs (record { pending = filled; outs = w.outs }) (record { pending = pending; outs = outs }) emits in
-    let pending_is : pending ≡ drop line.outs (w.pending ++ (yielded line.rows w ++ [])) = gone.pending ∙ ap (drop line.outs) all in
+    let pending_is : pending ≡ drop line.outs (w.pending ++ (yielded line.rows w ++ last)) = gone.pending ∙ ap (drop line.outs) filled_is in
     record {
       now = now;
       becomes = becomes;
-      last = [];
-      closes = closes-nothing now (ends_with line.rows w) (stays-apart w.operator_state now w.building (columns_at_hand w) (take line.rows w.rest) becomes apart);
-      may = subst (MayGoOn line) (same-offer w line) may;
+      last = last;
+      closes = closes;
+      may = may;
       outs = outs;
-      handed = subst (λ l. AreHandedOn w.route (take line.outs l) w.outs outs) all gone.handed;
+      handed = subst (λ l. AreHandedOn w.route (take line.outs l) w.outs outs) filled_is gone.handed;
       after = λ i. record w {
         operator_state = now;
         rest = rest_is i;

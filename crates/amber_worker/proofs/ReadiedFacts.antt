@@ -1,5 +1,5 @@
 -- What several rows or records give, as they are handed and as they are kept, and what stands by what is ready.
-use Rattle.std.proofs.Common.{◌≡◌, ℕ, zero, suc, ◌+◌, ◌-◌, ◌≤◌, List, [], ◌∷◌, ◌++◌, append_assoc, filter, if◌then◌else◌, length, map, take, drop, Option, Some, None, Result, Ok, Err, Bool, true, false, refl, sym, ap, ◌∙◌, arith, subst}
+use Rattle.std.proofs.Common.{◌≡◌, ℕ, zero, suc, ◌+◌, ◌-◌, List, [], ◌∷◌, ◌++◌, append_assoc, filter, if◌then◌else◌, length, map, take, drop, Option, Some, None, Result, Ok, Err, Bool, true, false, refl, sym, ap, ◌∙◌, subst}
 use Rattle.std.specs.List.{flat_map}
 use Rattle.std.specs.Prelude.{MatchBool, ◌&&◌}
 use Rattle.std.specs.Result.{OnOk}
@@ -17,7 +17,7 @@ use Rattle.amber_scan.specs.Shares.{ShareState}
 use Rattle.amber_scan.specs.declared.share.Scanned.{Scanned}
 use Rattle.amber_worker.specs.Fields.{arrival_of, arrivals_in, rest_in, row_from}
 use Rattle.amber_worker.specs.ReadiedRows.{AreBuiltReady, HasBuilt, Reading, keeps_build_side, keeps_still}
-use Rattle.amber_worker.specs.RedoneRows.{BecomesWith, Fits, MayGoOn, Offer, kept_by, lets_by, kept_of, refused_records, yielded_by, yielded_of, yielded_records}
+use Rattle.amber_worker.specs.RedoneRows.{BecomesWith, Fits, MayGoOn, Offer, kept_among, kept_by, lets_by, scan_refused, yielded_by, yielded_of, yielded_records}
 use Rattle.amber_worker.specs.Steps.{built_with, gives_if, is_plain, keeps_if}
 use Rattle.amber_worker.specs.declared.operator_state.OperatorState.{OperatorState}
 use Rattle.amber_worker.specs.declared.operator_state.OperatorState.TheVariants as operator_state
@@ -76,7 +76,7 @@ sink-yields builds columns arrivals = flat-none (λ (one : Arrival). gives_if op
 
 -- ---- what is refused, and what is kept
 
-pub records-refused : (op n : ℕ) (records : List Scanned) → refused_in op (take n (map arrival_of records)) ≡ refused_records op (take n records)
+pub records-refused : (op n : ℕ) (records : List Scanned) → refused_in op (take n (map arrival_of records)) ≡ scan_refused op (take n records)
 records-refused op n records = flat-mapped _ arrival_of _ (λ one. refl) n records
 
 pub rows-refused : (op from n : ℕ) (rows : List (List Value)) → refused_in op (take n (map (row_from from) rows)) ≡ []
@@ -96,7 +96,7 @@ plain-keeps operator_state.Sink (Some row) plain = absurd (false≢true plain)
 pub plain-kept : (d : OperatorState) (columns : List Column) (arrivals : List Arrival) → is_plain d ≡ true → kept_by d columns arrivals ≡ []
 plain-kept d columns arrivals plain = flat-none (λ (one : Arrival). keeps_if d (row_in columns one.what)) (λ one. plain-keeps d (row_in columns one.what) plain) arrivals
 
-pub sink-kept : (columns : List Column) (from n : ℕ) (rows : List (List Value)) → kept_by operator_state.Sink columns (take n (map (row_from from) rows)) ≡ kept_of operator_state.Sink columns (take n rows)
+pub sink-kept : (columns : List Column) (from n : ℕ) (rows : List (List Value)) → kept_by operator_state.Sink columns (take n (map (row_from from) rows)) ≡ kept_among operator_state.Sink columns (take n rows)
 sink-kept columns from n rows =
     flat-mapped (λ (one : Arrival). keeps_if operator_state.Sink (row_in columns one.what)) (row_from from) (λ (row : List Value). keeps_if operator_state.Sink (row_in columns (Ok row))) (λ row. refl) n rows
 
@@ -226,11 +226,6 @@ looked-all when start mid last pending made first second passed one two =
     ∙ ap (lets_by when mid) (append-nil made)
     ∙ ap (λ b. b && lets_by when mid made) (sym passed)
     ∙ one made
-
--- where a pending row holds the worker that is so whatever comes
-pub held-first : (when : Option Cond) (start mid : Gate) (pending made : List (List Value)) (first : Bool) → first ≡ false
-    → ((later : List (List Value)) → (first && lets_by when mid later) ≡ lets_by when start (pending ++ later)) → false ≡ lets_by when start (pending ++ made)
-held-first when start mid pending made first held one = ap (λ b. b && lets_by when mid made) (sym held) ∙ one made
 
 pub same-fits : (line : RowsLine) (left left2 gone gone2 all all2 : ℕ) → left ≡ left2 → gone ≡ gone2 → all ≡ all2 → Fits line left gone all → Fits line left2 gone2 all2
 same-fits line left left2 gone gone2 all all2 l g a fits =

@@ -5,8 +5,8 @@ use Rattle.std.proofs.lemmas.List.{append-nil, take_more}
 use Rattle.amber_rows.specs.declared.value.Value.{Value}
 use Rattle.amber_rows.specs.declared.column.Column.{Column}
 use Rattle.amber_meaning.specs.Task.{row_in}
-use Rattle.amber_worker.specs.RedoneRows.{kept_of, passed_by, yielded_of}
-use Rattle.amber_worker.specs.Steps.{gives_if, keeps_if, passed_of}
+use Rattle.amber_worker.specs.RedoneRows.{passed_by, yielded_of}
+use Rattle.amber_worker.specs.Steps.{gives_if, passed_of}
 use Rattle.amber_worker.specs.declared.operator_state.OperatorState.{OperatorState}
 use Rattle.amber_worker.specs.declared.taking_rows.Fate.{Fate}
 
@@ -65,9 +65,3 @@ passed-step pending now all fates later fate rows more row f r e h =
 pub passed-end : (pending all : List (List Value)) (fates : List Fate) (rows : List (List Value)) → fates ≡ [] → pending ++ passed_by fates rows ≡ all → pending ≡ all
 unfolding passed_by
 passed-end pending all fates rows f h = sym (append-nil pending) ∙ ap (λ (l : List Fate). pending ++ passed_by l rows) (sym f) ∙ h
-
--- one row more is kept
-pub kept-push : (d : OperatorState) (columns : List Column) (rows : List (List Value)) (row : List Value)
-    → kept_of d columns (rows ++ row ∷ []) ≡ kept_of d columns rows ++ keeps_if d (row_in columns (Ok row))
-kept-push d columns rows row =
-    flat_map-append (λ (one : List Value). keeps_if d (row_in columns (Ok one))) rows (row ∷ []) ∙ ap (λ l. kept_of d columns rows ++ l) (append-nil (keeps_if d (row_in columns (Ok row))))

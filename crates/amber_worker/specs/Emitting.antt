@@ -1,11 +1,9 @@
 -- Pending rows that were handed on, many at a time.
-use Rattle.std.specs.Prelude.{◌≡◌, ℕ, zero, suc, ◌+◌, ◌++◌, List, [], ◌∷◌, map, false}
+use Rattle.std.specs.Prelude.{◌≡◌, ℕ, zero, suc, List, map}
 use Rattle.amber_rows.specs.declared.value.Value.{Value}
-use Rattle.amber_log.specs.declared.entry.Entry.TheVariants as entry
 use Rattle.amber_link.specs.Sides.{without_room}
 use Rattle.amber_link.specs.declared.downstreams.Downstream.{Downstream}
 use Rattle.amber_worker.specs.Links.{EmitsFirst, OutputSide}
-use Rattle.amber_worker.specs.WorkerState.{WorkerState}
 use Rattle.amber_worker.specs.declared.route.Route.{Route}
 
 -- a worker's side of output, whatever room there is
@@ -16,15 +14,3 @@ side_of pending outs = record { pending = pending; outs = map without_room outs 
 unfoldable pub EmitsMany : Route → ℕ → OutputSide → OutputSide → Type 0
 EmitsMany to zero old new = new ≡ old
 EmitsMany to (suc n) old new = (between : OutputSide) × EmitsMany to n old between × EmitsFirst to between new
-
--- so many pending rows were emitted, which is one entry
-pub record EmitsRows (outs : ℕ) (old new : WorkerState) : Type 0 where
-  pub side : OutputSide
-  pub emits : EmitsMany old.route outs (record { pending = old.pending; outs = old.outs }) side
-  pub after : new ≡ record old {
-    pending = side.pending;
-    emitted = old.emitted + outs;
-    restraint = record old.restraint { waved = false };
-    outs = side.outs;
-    journal = old.journal ++ entry.Go 0 outs ∷ [];
-  }

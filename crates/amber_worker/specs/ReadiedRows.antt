@@ -56,6 +56,9 @@ pub record Reading : Type 0 where
   pub builds : Bool
   pub state : OperatorState
 
+abbrev pub reading_with : ℕ → List Column → Bool → OperatorState → Reading
+reading_with count columns builds state = record { count = count; columns = columns; builds = builds; state = state }
+
 -- so many records of a share are read ahead, of which so many rows come, and so many of all but the last
 pub record AreRecordsReady (how : Reading) (rest : Rest) (before made : ℕ) : Type 0 where
   pub share : ShareState
@@ -101,12 +104,12 @@ pub record AreBuiltReady (how : Reading) (rest : Rest) : Type 0 where
   pub sealed : IsSealedSo how.state how.builds
 
 -- what stands by what is ready
-abbrev pub AreReady : Reading → Rest → ReadiedRows → Type 0
-AreReady how rest (readied_rows.Records before made) = AreRecordsReady how rest before made
-AreReady how rest (readied_rows.Rows fates) = AreRowsReady how rest fates
-AreReady how rest readied_rows.Kept = AreKeptReady how rest
-AreReady how rest (readied_rows.Made made) = AreMadeReady how rest made
-AreReady how rest readied_rows.Built = AreBuiltReady how rest
+abbrev pub AreReadied : Reading → Rest → ReadiedRows → Type 0
+AreReadied how rest (readied_rows.Records before made) = AreRecordsReady how rest before made
+AreReadied how rest (readied_rows.Rows fates) = AreRowsReady how rest fates
+AreReadied how rest readied_rows.Kept = AreKeptReady how rest
+AreReadied how rest (readied_rows.Made made) = AreMadeReady how rest made
+AreReadied how rest readied_rows.Built = AreBuiltReady how rest
 
 -- ---- what is judged
 
@@ -115,13 +118,13 @@ abbrev pub yielded_to : Reading → List Arrival → List (List Value)
 yielded_to how arrivals = yielded_by how.state how.builds how.columns (take how.count arrivals)
 
 -- what stands by besides: the rows that are pending, the condition in force, and whether the first row is waved on
-pub record Waiting : Type 0 where
+pub record StandingBy : Type 0 where
   pub pending : List (List Value)
   pub when : Option Cond
   pub waved : Bool
 
 -- by what the taking of so many of these is judged
-abbrev pub offer_to : Reading → List Arrival → Waiting → Offer
+abbrev pub offer_to : Reading → List Arrival → StandingBy → Offer
 offer_to how arrivals waiting = record {
   left = length arrivals;
   pending = waiting.pending;
@@ -160,12 +163,12 @@ pub record HasBuilt (how : Reading) (before now : Rest) (state : OperatorState) 
   pub becomes : BecomesWith how.state how.builds how.columns (take how.count (arrivals_in before)) state
 
 -- what is ready was kept for the operator, if it is to be
-abbrev pub HasFed : Reading → Rest → Rest → OperatorState → ReadiedRows → Type 0
-HasFed how before now state (readied_rows.Records before_last made) = IsUnfed how before now state
-HasFed how before now state (readied_rows.Rows fates) = IsUnfed how before now state
-HasFed how before now state readied_rows.Kept = IsUnfed how before now state
-HasFed how before now state (readied_rows.Made made) = IsUnfed how before now state
-HasFed how before now state readied_rows.Built = HasBuilt how before now state
+abbrev pub FeedsReadied : Reading → Rest → Rest → OperatorState → ReadiedRows → Type 0
+FeedsReadied how before now state (readied_rows.Records before_last made) = IsUnfed how before now state
+FeedsReadied how before now state (readied_rows.Rows fates) = IsUnfed how before now state
+FeedsReadied how before now state readied_rows.Kept = IsUnfed how before now state
+FeedsReadied how before now state (readied_rows.Made made) = IsUnfed how before now state
+FeedsReadied how before now state readied_rows.Built = HasBuilt how before now state
 
 -- what is left of what was handed, the rows that are pending, and what is kept for the answer
 pub record Holding : Type 0 where

@@ -1,6 +1,5 @@
 -- Whether a worker may do a line of a log, by what it keeps, and the batch that it takes then.
-use Rattle.std.specs.Prelude.{◌≡◌, ◌≢◌, ℕ, ◌&&◌, not, nat_lt, length, take, slice_index_or, Option, is_some, Bool}
-use Rattle.amber_meaning.specs.Rules.{pass_by}
+use Rattle.std.specs.Prelude.{◌≡◌, ◌≢◌, ℕ, ◌&&◌, not, nat_lt, slice_index_or, Option, is_some, Bool}
 use Rattle.amber_link.specs.Links.{has_some}
 use Rattle.amber_link.specs.Sides.{have_all_ended}
 use Rattle.amber_link.specs.declared.upstreams.Upstream.{Upstream}
@@ -14,34 +13,28 @@ abbrev pub lacks_units : Option Armed → ℕ → Bool
 lacks_units armed units = is_some armed && nat_lt (hand_before armed) units
 
 -- it may pause
-abbrev pub may_pause : WorkerState → Bool
-may_pause w = not w.finished && not w.restraint.paused
+abbrev pub pauses_again : WorkerState → Bool
+pauses_again w = not w.finished && not w.restraint.paused
 
 -- it may go on after a pause
-abbrev pub may_resume : WorkerState → Bool
-may_resume w = w.restraint.paused && (not w.finished && not w.restraint.held)
+abbrev pub resumes_again : WorkerState → Bool
+resumes_again w = w.restraint.paused && (not w.finished && not w.restraint.held)
 
 -- the next row holds it
-abbrev pub may_hold : Option Armed → WorkerState → Bool
-may_hold armed w = (not (stands_still w) && must_hold w) && not (lacks_units armed 1)
+abbrev pub holds_again : Option Armed → WorkerState → Bool
+holds_again armed w = (not (stands_still w) && must_hold w) && not (lacks_units armed 1)
 
 -- it may claim units
-abbrev pub may_grant : Option Armed → WorkerState → Bool
-may_grant armed w = is_some armed && not w.finished
+abbrev pub claims_again : Option Armed → WorkerState → Bool
+claims_again armed w = is_some armed && not w.finished
 
 -- nothing holds it back, and nothing is at hand
 abbrev pub is_through : WorkerState → Bool
 is_through w = not (stands_still w) && (not (has_some w.pending) && not (has_some w.rest))
 
 -- nothing more can come
-abbrev pub may_finish : WorkerState → Bool
-may_finish w = is_through w && have_all_ended w.ins
-
--- so many pending rows may be emitted: there are as many, with a unit for each where a count is armed, and none of them holds the worker
-abbrev pub may_emit : Option Armed → ℕ → WorkerState → Bool
-may_emit armed outs w =
-    ((not (stands_still w) && not (nat_lt (length w.pending) outs)) && not (lacks_units armed outs))
-    && pass_by w.when w.restraint.waved (take outs w.pending)
+abbrev pub finishes_again : WorkerState → Bool
+finishes_again w = is_through w && have_all_ended w.ins
 
 -- a batch of the sender at this place was taken, and nothing changed of the others
 pub record TakesAt (place : ℕ) (old new : WorkerState) : Type 0 where

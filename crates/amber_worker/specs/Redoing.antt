@@ -23,8 +23,8 @@ pub record LogLine : Type 0 where
   pub entry : Entry
   pub armed : Option Armed
 
-abbrev pub line_of : Entry → Option Armed → LogLine
-line_of entry armed = record { entry = entry; armed = armed }
+abbrev pub log_line : Entry → Option Armed → LogLine
+log_line entry armed = record { entry = entry; armed = armed }
 
 -- the units in hand before a line; none where no count is armed
 abbrev pub hand_before : Option Armed → ℕ
@@ -57,15 +57,15 @@ units_of entry.Hold = 0
 units_of entry.Finish = 0
 
 -- the steps of an entry: rows taken, rows emitted, a batch taken, or the end
-abbrev pub steps_in : Entry → ℕ
-steps_in (entry.Take sender batch) = 1
-steps_in (entry.Go rows outs) = rows + outs
-steps_in (entry.Grant n) = 0
-steps_in (entry.Back n) = 0
-steps_in entry.Pause = 0
-steps_in entry.Resume = 0
-steps_in entry.Hold = 0
-steps_in entry.Finish = 1
+abbrev pub entry_steps : Entry → ℕ
+entry_steps (entry.Take sender batch) = 1
+entry_steps (entry.Go rows outs) = rows + outs
+entry_steps (entry.Grant n) = 0
+entry_steps (entry.Back n) = 0
+entry_steps entry.Pause = 0
+entry_steps entry.Resume = 0
+entry_steps entry.Hold = 0
+entry_steps entry.Finish = 1
 
 -- ---- the batch that a line takes
 
@@ -116,8 +116,8 @@ abbrev pub before_line : LogLine → WorkerState → WorkerState
 before_line line w = with_hand (hand_before line.armed) w
 
 -- wherever the worker stood, under a count or not as the line says, the line met its rule, and the worker stands where it leads
-unfoldable pub StandsAfter : LogLine → List Upstream → WorkerState → WorkerState → Type 0
-StandsAfter line found old new = (context : Context) (start p : Position) → context.orders.counted ≡ is_some line.armed
+unfoldable pub StandsAfterLine : LogLine → List Upstream → WorkerState → WorkerState → Type 0
+StandsAfterLine line found old new = (context : Context) (start p : Position) → context.orders.counted ≡ is_some line.armed
     → IsAtPosition context (before_line line old) start p
     → MeetsRule context found p line.entry
     × IsAtPosition context (with_hand (hand_after line) new) start (position_after context.orders (offered_to found line.entry) line.entry p)
@@ -133,7 +133,7 @@ NeverMeets line found w = (context : Context) (p : Position) → context.orders.
 pub record HasRedone (line : LogLine) (old new : WorkerState) : Type 0 where
   pub found : List Upstream
   pub looked : AreLooked old.ins found
-  pub stands : StandsAfter line found old new
+  pub stands : StandsAfterLine line found old new
   -- nothing is in hand where no count is armed
   pub unarmed : line.armed ≡ None → hand_after line ≡ 0
   pub journal : new.journal ≡ old.journal ++ line.entry ∷ []
@@ -154,6 +154,6 @@ Redoes line old new true = HasRedone line old new
 Redoes line old new false = CannotRedo line old new
 
 -- and this was answered, with what is in hand then
-abbrev pub AnswersLine : LogLine → WorkerState → WorkerState → Redone → Type 0
-AnswersLine line old new (redone.Done hand) = HasRedone line old new × (hand ≡ hand_after line)
-AnswersLine line old new redone.Illegal = CannotRedo line old new
+abbrev pub AnswersRedone : LogLine → WorkerState → WorkerState → Redone → Type 0
+AnswersRedone line old new (redone.Done hand) = HasRedone line old new × (hand ≡ hand_after line)
+AnswersRedone line old new redone.Illegal = CannotRedo line old new

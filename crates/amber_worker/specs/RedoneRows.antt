@@ -18,6 +18,7 @@ use Rattle.amber_worker.specs.WorkerState.{WorkerState}
 use Rattle.amber_worker.specs.declared.letting_by.Gate.{Gate}
 use Rattle.amber_worker.specs.declared.operator_state.OperatorState.{OperatorState}
 use Rattle.amber_worker.specs.declared.operator_state.OperatorState.TheVariants as operator_state
+use Rattle.amber_worker.specs.declared.redone_made.Offering.{Offering}
 use Rattle.amber_worker.specs.declared.redone_rows.RowsLine.{RowsLine}
 use Rattle.amber_worker.specs.declared.route.Route.{Route}
 use Rattle.amber_worker.specs.declared.taking_rows.Fate.{Fate}
@@ -42,16 +43,16 @@ BecomesWith d builds columns (one ∷ more) now =
 abbrev pub yielded_of : OperatorState → List Column → List (List Value) → List (List Value)
 yielded_of d columns rows = flat_map (λ row. gives_if d false (row_in columns (Ok row))) rows
 
-abbrev pub kept_of : OperatorState → List Column → List (List Value) → List (List Value)
-kept_of d columns rows = flat_map (λ row. keeps_if d (row_in columns (Ok row))) rows
+abbrev pub kept_among : OperatorState → List Column → List (List Value) → List (List Value)
+kept_among d columns rows = flat_map (λ row. keeps_if d (row_in columns (Ok row))) rows
 
 -- the rows that go on of the records of a share
 abbrev pub yielded_records : List Column → List Scanned → List (List Value)
 yielded_records columns records = flat_map (λ one. gives_if operator_state.Scan false (row_in columns one.what)) records
 
 -- what a scan refuses of them
-abbrev pub refused_records : ℕ → List Scanned → List Refusal
-refused_records op records = flat_map (λ one. refusal_in op one.number one.what) records
+abbrev pub scan_refused : ℕ → List Scanned → List Refusal
+scan_refused op records = flat_map (λ one. refusal_in op one.number one.what) records
 
 -- the rows that go on of those of which this becomes
 unfoldable pub passed_by : List Fate → List (List Value) → List (List Value)
@@ -85,6 +86,21 @@ pub record Offer : Type 0 where
   pub made : List (List Value)
   pub when : Option Cond
   pub waved : Bool
+
+-- how many rows are pending once all came of it
+abbrev pub most_pending : Offer → ℕ
+most_pending offer = length offer.pending + length offer.made
+
+-- that of which no row comes but with the last that is taken
+abbrev pub offer_in : Offering → Offer
+offer_in offering = record {
+  left = offering.left;
+  pending = offering.pending.now;
+  before = 0;
+  made = offering.made.now.items;
+  when = offering.when.now;
+  waved = offering.waved;
+}
 
 -- the line may be done
 pub record MayGoOn (line : RowsLine) (offer : Offer) : Type 0 where
@@ -146,7 +162,7 @@ rows_gone line now last outs w = record w {
 }
 
 -- the line was done, whole
-pub record GoesOn (line : RowsLine) (old new : WorkerState) : Type 0 where
+pub record TakesLine (line : RowsLine) (old new : WorkerState) : Type 0 where
   pub now : OperatorState
   pub becomes : BecomesTaking line.rows old now
   pub last : List (List Value)
@@ -164,5 +180,5 @@ pub record MayNotGo (line : RowsLine) (w : WorkerState) : Type 0 where
 
 -- the line was done, or may not be, and all is as before
 abbrev pub GoesOrNot : RowsLine → WorkerState → WorkerState → Bool → Type 0
-GoesOrNot line old new true = GoesOn line old new
+GoesOrNot line old new true = TakesLine line old new
 GoesOrNot line old new false = MayNotGo line old × (new ≡ old)

@@ -1,11 +1,8 @@
 //! Pending rows that go to their receivers, many at a time and without memory. Rests on `Pending`, `Route` and
 //! `Downstream` of `amber_link`.
 
-ghost use Rattle.std.specs.Prelude.{All, drop, false, length, not, take, true, ◌+◌, ◌<◌, ◌^◌, ◌≡◌, ◌≤◌, ℕ};
-ghost use Rattle.std.specs.List.{list_all};
-ghost use Rattle.amber_rows.specs.Cond.{holds_of};
+ghost use Rattle.std.specs.Prelude.{All, false, length, true, ◌+◌, ◌<◌, ◌^◌, ◌≡◌, ◌≤◌, ℕ};
 ghost use Rattle.amber_link.specs.Links.{has_some};
-ghost use Rattle.amber_meaning.specs.Rules.{pass_by};
 ghost use Rattle.amber_worker.specs.Emitting.{EmitsMany, side_of};
 ghost use Rattle.amber_worker.specs.Links.{EmitsFirst, IsSoundRoute};
 
@@ -13,31 +10,6 @@ use crate::links::receiver_place;
 use crate::pending::Pending;
 use crate::route::Route;
 use amber_link::{Downstream, push_at};
-use amber_rows::{Cond, holds};
-
-// Whether none of the first so many rows holds a worker, of which the first may be waved on.
-pub(crate) fn let_by(when: &Option<Cond>, waved: bool, pending: &Pending, rows: u64) -> bool
-    requires { rows ≤ length pending.now }
-    ensures { result ≡ pass_by when.now waved (take rows pending.now) }
-{
-    match when {
-        None => true,
-        Some(cond) => none_meets(cond, u64::from(waved), pending, rows),
-    }
-}
-
-// Whether none of the rows from a place on, among the first so many, meets the condition.
-fn none_meets(cond: &Cond, from: u64, pending: &Pending, rows: u64) -> bool
-    requires { rows ≤ length pending.now }
-    ensures { result ≡ list_all (λ row. not (holds_of cond.now row)) (drop from (take rows pending.now)) }
-{
-    for i in from..rows {
-        if holds(cond, pending.at(i as usize)) {
-            return false;
-        }
-    }
-    true
-}
 
 // Hands the first of these rows on to the receiver to which it goes, if there is one. There is room for it.
 fn emit_next(route: &Route, pending: &mut Pending, outs: &mut [Downstream])

@@ -4,7 +4,7 @@
 ghost use Rattle.std.specs.Prelude.{◌≡◌, ◌-◌, ◌≤◌, ◌++◌, ◌&&◌, Bool, List, None, length, take, false, true, is_some, IfOk, IfSome, MatchBool};
 ghost use Rattle.amber_rows.specs.declared.value.Value.{Value as Cell};
 ghost use Rattle.amber_worker.specs.Fields.{arrivals_in};
-ghost use Rattle.amber_worker.specs.ReadiedRows.{AreReady, IsSealedSo, Reading, offer_to, yielded_to};
+ghost use Rattle.amber_worker.specs.ReadiedRows.{AreReadied, IsSealedSo, Reading, offer_to, reading_with, yielded_to};
 ghost use Rattle.amber_worker.specs.RedoneRows.{MayGoOn, lets_by, yielded_by};
 ghost use Rattle.amber_worker.specs.Steps.{is_group};
 ghost use Rattle.amber_worker.specs.declared.taking_rows.Rest.{Rest as OneRest};
@@ -38,7 +38,7 @@ pub(crate) enum ReadiedRows {
 impl ReadiedRows {
     // How many rows come of all but the last.
     fn before(&self) -> u64
-        ensures { (how : Reading) (rest : OneRest) → AreReady how rest self.now
+        ensures { (how : Reading) (rest : OneRest) → AreReadied how rest self.now
             → result ≡ length (yielded_by how.state how.builds how.columns
             (take (how.count - 1) (arrivals_in rest))) }
     {
@@ -53,7 +53,7 @@ impl ReadiedRows {
 
     // How many rows come of all.
     fn made(&self) -> u64
-        ensures { (how : Reading) (rest : OneRest) → AreReady how rest self.now
+        ensures { (how : Reading) (rest : OneRest) → AreReadied how rest self.now
             → result ≡ length (yielded_to how (arrivals_in rest)) }
     {
         match self {
@@ -71,14 +71,8 @@ fn ready_records(rest: &mut Rest, columns: &Schema, count: usize) -> Result<Read
     requires shared { is_some rest.old.share ≡ true }
     requires there { count ≤ length (arrivals_in rest.old) }
     requires typed { IfSome rest.old.share (λ share. share.columns ≡ columns.now) }
-    ensures ok { IfOk result (λ readied. (builds : Bool) → AreReady
-        (record {
-          count = count;
-          columns = columns.now;
-          builds = builds;
-          state = OperatorState.Scan;
-        })
-        rest.new readied) }
+    ensures ok { IfOk result (λ readied. (builds : Bool) → AreReadied
+        (reading_with count columns.now builds OperatorState.Scan) rest.new readied) }
     ensures same { arrivals_in rest.new ≡ arrivals_in rest.old }
     ensures shares { is_some rest.new.share ≡ is_some rest.old.share }
     ensures typed { IfSome rest.new.share (λ share. share.columns ≡ columns.now) }
@@ -106,14 +100,8 @@ fn ready_batch(
     requires there { count ≤ length rest.now.rows.items }
     requires apart { is_group operator_state.now ≡ false }
     requires sealed { IsSealedSo operator_state.now builds }
-    ensures { IfOk result (λ readied. AreReady
-        (record {
-          count = count;
-          columns = columns.now;
-          builds = builds;
-          state = operator_state.now;
-        })
-        rest.now readied) }
+    ensures { IfOk result (λ readied. AreReadied
+        (reading_with count columns.now builds operator_state.now) rest.now readied) }
 {
     match operator_state {
         OperatorState::Sink => Ok(ReadiedRows::Kept),
@@ -147,14 +135,8 @@ pub(crate) fn ready_rows(
     requires sealed { IsSealedSo operator_state.now builds }
     requires scans { IfSome rest.old.share (λ _. operator_state.now ≡ OperatorState.Scan) }
     requires typed { IfSome rest.old.share (λ share. share.columns ≡ columns.now) }
-    ensures ok { IfOk result (λ readied. AreReady
-        (record {
-          count = count;
-          columns = columns.now;
-          builds = builds;
-          state = operator_state.now;
-        })
-        rest.new readied) }
+    ensures ok { IfOk result (λ readied. AreReadied
+        (reading_with count columns.now builds operator_state.now) rest.new readied) }
     ensures same { arrivals_in rest.new ≡ arrivals_in rest.old }
     ensures shares { is_some rest.new.share ≡ is_some rest.old.share }
     ensures typed { IfSome rest.new.share (λ share. share.columns ≡ columns.now) }
@@ -175,9 +157,9 @@ fn lets_ready_by(
     count: usize,
 ) -> bool
     requires { (how : Reading) × (how.count ≡ count) × (how.columns ≡ columns.now)
-        × AreReady how rest.now readied.now }
+        × AreReadied how rest.now readied.now }
     ensures { (how : Reading) (later : List (List Cell)) → how.count ≡ count
-        → how.columns ≡ columns.now → AreReady how rest.now readied.now
+        → how.columns ≡ columns.now → AreReadied how rest.now readied.now
         → (result && lets_by when.now gate.new later)
         ≡ lets_by when.now gate.old (yielded_to how (arrivals_in rest.now) ++ later) }
 {
@@ -206,9 +188,9 @@ pub(crate) fn may_go(
     columns: &Schema,
 ) -> bool
     requires { (how : Reading) × (how.count ≡ line.rows) × (how.columns ≡ columns.now)
-        × AreReady how rest.now readied.now }
+        × AreReadied how rest.now readied.now }
     ensures { (how : Reading) → how.count ≡ line.rows → how.columns ≡ columns.now
-        → AreReady how rest.now readied.now → MatchBool result
+        → AreReadied how rest.now readied.now → MatchBool result
         (MayGoOn line (offer_to how (arrivals_in rest.now)
         (record { pending = pending.now; when = when.now; waved = waved })))
         (MayGoOn line (offer_to how (arrivals_in rest.now)

@@ -2,7 +2,7 @@
 
 ghost use Rattle.std.specs.Prelude.{◌+◌, ◌<◌, ◌^◌, ◌≡◌};
 ghost use Rattle.amber_worker.specs.Redoable.{lacks_units};
-ghost use Rattle.amber_worker.specs.Redoing.{hand_after, hand_before, line_of, units_of};
+ghost use Rattle.amber_worker.specs.Redoing.{hand_after, hand_before, log_line, units_of};
 
 use amber_log::Entry;
 
@@ -44,7 +44,7 @@ pub(crate) fn lacks_units(armed: Option<Armed>, units: u64) -> bool
 // What an entry leaves of the units in hand before it.
 pub(crate) fn left_by(entry: &Entry, armed: Option<Armed>) -> u128
     requires { hand_before armed + units_of entry.now < 2 ^ 128 }
-    ensures { result ≡ hand_after (line_of entry.now armed) }
+    ensures { result ≡ hand_after (log_line entry.now armed) }
 {
     let hand = hand_of(armed);
     match entry {

@@ -1,8 +1,7 @@
 //! How the rows of a batch that a line of a log takes are probed, without a change, or kept of the build side. Rests on
 //! `UsedRows`, and on `JoinState` of `amber_join`.
 
-ghost use Rattle.std.specs.Prelude.{Ok, ◌≡◌, ◌+◌, ◌-◌, ◌<◌, ◌≤◌, ◌++◌, false, true, filter, length, take, drop, IfOk, OnErr, OnOk};
-ghost use Rattle.std.specs.VecDeque.{deque_capacity, deque_len};
+ghost use Rattle.std.specs.Prelude.{Ok, ◌≡◌, ◌-◌, ◌≤◌, ◌++◌, false, true, filter, length, take, drop, IfOk, OnErr, OnOk};
 ghost use Rattle.amber_rows.specs.Suits.{suits_of};
 ghost use Rattle.amber_meaning.specs.Task.{row_in};
 ghost use Rattle.amber_worker.specs.RedoneRows.{yielded_of};
@@ -64,29 +63,6 @@ pub(crate) fn probe_rows(
         probe_one(state, columns, &rows[i], free, &mut made)?;
     }
     Ok(MadeRows { rows: made, before })
-}
-
-// Takes the first rows of a batch, which are done with.
-pub(crate) fn drop_all(rows: &mut VecDeque<Row>, count: usize, done: &mut UsedRows)
-    requires { count ≤ length rows.old.items }
-    ensures { rows.new.items ≡ drop count rows.old.items }
-{
-    for _ in 0..count {
-        let Some(row) = rows.pop_front() else {
-            unreachable!()
-        };
-        done.keep(row);
-    }
-}
-
-// Puts these rows behind others. There is room for them.
-pub(crate) fn join_rows(mut made: VecDeque<Row>, rows: &mut VecDeque<Row>)
-    requires { deque_len rows.old + length made.items ≤ deque_capacity rows.old }
-    ensures { rows.new.items ≡ rows.old.items ++ made.items }
-{
-    while let Some(row) = made.pop_front() {
-        rows.push_back_reserved(row);
-    }
 }
 
 // Keeps those of the first rows of a batch of the build side that suit. If memory runs out all is as before.

@@ -1,23 +1,21 @@
 //! A line of a log of which what comes is made first: whether it may be done, with room for all that it leaves, and how it is
 //! done then without memory. Rests on `redone_rows`, `letting_by` and `emitting`.
 
-ghost use Rattle.std.specs.Prelude.{All, List, MatchBool, IfOk, Ok, OnOk, [], drop, false, length, map, not, true, ◌&&◌, ◌+◌, ◌++◌, ◌<◌, ◌==◌, ◌^◌, ◌≡◌, ◌≢◌, ◌≤◌, ℕ};
-ghost use Rattle.std.specs.VecDeque.{deque_capacity, deque_len};
-ghost use Rattle.amber_rows.specs.declared.value.Value.{Value as Cell};
+ghost use Rattle.std.specs.Prelude.{All, IfOk, IfSome, MatchBool, Ok, OnOk, [], false, length, map, not, true, ◌&&◌, ◌+◌, ◌++◌, ◌<◌, ◌==◌, ◌^◌, ◌≡◌, ◌≢◌, ◌≤◌, ℕ};
+ghost use Rattle.std.specs.VecDeque.{deque_capacity};
 ghost use Rattle.amber_link.specs.Sides.{have_all_ended, without_room};
 ghost use Rattle.amber_worker.specs.Emitting.{EmitsMany, side_of};
 ghost use Rattle.amber_worker.specs.Fields.{arrivals_in};
 ghost use Rattle.amber_worker.specs.Links.{IsSoundRoute};
-ghost use Rattle.amber_worker.specs.RedoneRows.{MayGoOn, lets_by};
+ghost use Rattle.amber_worker.specs.RedoneRows.{MayGoOn, most_pending, offer_in};
 
 use crate::emitting::emit_many;
 use crate::journal::Journal;
-use crate::letting_by::{Gate, lets_pending_by};
+use crate::letting_by::{Gate, lets_pending_by, lets_rows_by};
 use crate::pending::Pending;
-use crate::redone_rows::{RowsLine, fits, move_all};
+use crate::redone_rows::{RowsLine, fits, join_rows, move_all};
 use crate::route::Route;
 use crate::taking_rows::Rest;
-use crate::used_rows::UsedRows;
 use amber_link::{Downstream, Upstream, have_ended, reserve_rows};
 use amber_rows::{Cond, Row};
 use std::alloc::AllocError;
@@ -31,77 +29,82 @@ pub(crate) fn ends_with(rows: u64, rest: &Rest, ins: &[Upstream]) -> bool
     rows != 0 && rows == rest.left() && have_ended(ins)
 }
 
-// Whether none of these rows holds the worker.
-fn lets_rows_by(gate: &mut Gate, when: &Option<Cond>, rows: &VecDeque<Row>) -> bool
-    ensures { (later : List (List Cell)) → (result && lets_by when.now gate.new later)
-        ≡ lets_by when.now gate.old (rows.now.items ++ later) }
-{
-    for i in 0..rows.len() {
-        if !gate.lets_by(when, &rows[i]) {
-            return false;
-        }
-    }
-    true
+// What a line is judged by of which rows come with the last that it takes, and none before: how much is left to be taken, the
+// rows that are pending, those that come, the condition in force, and whether the first row is waved on.
+#[derive(Clone, Copy)]
+pub(crate) struct Offering<'a> {
+    left: u64,
+    pending: &'a Pending,
+    made: &'a VecDeque<Row>,
+    when: &'a Option<Cond>,
+    waved: bool,
 }
 
-// Whether a line may be done, where so many rows are left to be taken, so many come of all that it takes but for the last,
-// and these come of all of it.
-fn may_close(
-    line: RowsLine,
-    left: u64,
-    before: u64,
-    made: &VecDeque<Row>,
-    when: &Option<Cond>,
-    waved: bool,
-    pending: &Pending,
-) -> bool
+impl<'a> Offering<'a> {
+    // What a line is judged by.
+    pub fn new(
+        left: u64,
+        pending: &'a Pending,
+        made: &'a VecDeque<Row>,
+        when: &'a Option<Cond>,
+        waved: bool,
+    ) -> Self
+        ensures { offer_in result ≡ record {
+          left = left;
+          pending = pending.now;
+          before = 0;
+          made = made.now.items;
+          when = when.now;
+          waved = waved;
+        } }
+    {
+        Offering {
+            left,
+            pending,
+            made,
+            when,
+            waved,
+        }
+    }
+
+    // How many rows are pending once all came.
+    fn most(&self) -> Option<u64>
+        ensures { IfSome result (λ most. most ≡ most_pending (offer_in self.now)) }
+    {
+        self.pending.len().checked_add(self.made.len() as u64)
+    }
+}
+
+// Whether a line may be done for which this is offered.
+fn may_close(line: RowsLine, offering: &Offering) -> bool
     ensures { MatchBool result
-        (MayGoOn line (record {
-          left = left;
-          pending = pending.now;
-          before = before;
-          made = made.now.items;
-          when = when.now;
-          waved = waved;
-        }))
-        (MayGoOn line (record {
-          left = left;
-          pending = pending.now;
-          before = before;
-          made = made.now.items;
-          when = when.now;
-          waved = waved;
-        }) → ⊥) }
+        (MayGoOn line (offer_in offering.now)) (MayGoOn line (offer_in offering.now) → ⊥) }
 {
-    let had = u128::from(pending.len());
-    if !fits(
-        line,
-        left,
-        had + u128::from(before),
-        had + made.len() as u128,
-    ) {
+    let had = u128::from(offering.pending.len());
+    if !fits(line, offering.left, had, had + offering.made.len() as u128) {
         return false;
     }
     let mut gate = Gate {
         left: line.outs,
-        waved,
+        waved: offering.waved,
     };
-    lets_pending_by(&mut gate, when, pending) && lets_rows_by(&mut gate, when, made)
+    let when = offering.when;
+    lets_pending_by(&mut gate, when, offering.pending)
+        && lets_rows_by(&mut gate, when, offering.made)
 }
 
-// Makes room for all that a line leaves of which so many rows come: in the journal, at each receiver, and in a list for
-// the rows that are pending and those that come of it.
+// Makes room for all that a line leaves for which this is offered: in the journal, at each receiver, and in a list for the
+// rows that are pending and those that come of it.
 fn reserve_made(
     line: RowsLine,
-    made: usize,
-    pending: &Pending,
+    offering: &Offering,
     outs: &mut [Downstream],
     journal: &mut Journal,
     rows: &mut VecDeque<Row>,
 ) -> Result<(), AllocError>
     requires open { All (λ one. one.link.kept.ended ≡ false) outs.old }
     requires none { rows.old.items ≡ [] }
-    ensures room { OnOk result (length pending.now + made ≤ deque_capacity rows.new) }
+    ensures room { OnOk result (most_pending (offer_in offering.now) ≤ deque_capacity rows.new) }
     ensures outs { OnOk result (All (λ one. line.outs < one.link.kept.room) outs.new) }
     ensures spare { OnOk result (1 < journal.new.spare) }
     ensures none { rows.new.items ≡ [] }
@@ -110,7 +113,7 @@ fn reserve_made(
     ensures entries { journal.new.entries ≡ journal.old.entries }
     ensures reserved { journal.new.reserved ≡ journal.old.reserved }
 {
-    let Some(most) = pending.len().checked_add(made as u64) else {
+    let Some(most) = offering.most() else {
         return Err(AllocError);
     };
     rows.reserve(most as usize)?;
@@ -118,16 +121,10 @@ fn reserve_made(
     reserve_rows(outs, line.outs)
 }
 
-// Whether a line may be done, where so many rows are left to be taken, so many come of all that it takes but for the last,
-// and these come of all of it. Then there is room for all that it leaves.
+// Whether a line may be done for which this is offered. Then there is room for all that it leaves.
 pub(crate) fn settle(
     line: RowsLine,
-    left: u64,
-    before: u64,
-    made: &VecDeque<Row>,
-    when: &Option<Cond>,
-    waved: bool,
-    pending: &Pending,
+    offering: &Offering,
     outs: &mut [Downstream],
     journal: &mut Journal,
     rows: &mut VecDeque<Row>,
@@ -135,24 +132,9 @@ pub(crate) fn settle(
     requires open { All (λ one. one.link.kept.ended ≡ false) outs.old }
     requires none { rows.old.items ≡ [] }
     ensures may { IfOk result (λ may. MatchBool may
-        (MayGoOn line (record {
-          left = left;
-          pending = pending.now;
-          before = before;
-          made = made.now.items;
-          when = when.now;
-          waved = waved;
-        }))
-        (MayGoOn line (record {
-          left = left;
-          pending = pending.now;
-          before = before;
-          made = made.now.items;
-          when = when.now;
-          waved = waved;
-        }) → ⊥)) }
+        (MayGoOn line (offer_in offering.now)) (MayGoOn line (offer_in offering.now) → ⊥)) }
     ensures room { IfOk result (λ may. may ≡ true
-        → length pending.now + length made.now.items ≤ deque_capacity rows.new) }
+        → most_pending (offer_in offering.now) ≤ deque_capacity rows.new) }
     ensures outs { IfOk result (λ may. may ≡ true
         → All (λ one. line.outs < one.link.kept.room) outs.new) }
     ensures spare { IfOk result (λ may. may ≡ true → 1 < journal.new.spare) }
@@ -162,10 +144,10 @@ pub(crate) fn settle(
     ensures entries { journal.new.entries ≡ journal.old.entries }
     ensures reserved { journal.new.reserved ≡ journal.old.reserved }
 {
-    if !may_close(line, left, before, made, when, waved, pending) {
+    if !may_close(line, offering) {
         return Ok(false);
     }
-    reserve_made(line, made.len(), pending, outs, journal, rows)?;
+    reserve_made(line, offering, outs, journal, rows)?;
     Ok(true)
 }
 
@@ -177,29 +159,6 @@ pub(crate) fn is_done(answer: &Result<bool, AllocError>) -> bool
     match answer {
         Ok(may) => *may,
         Err(_) => false,
-    }
-}
-
-// Drops the first rows, with which the worker is done.
-pub(crate) fn drop_rows(rows: &mut VecDeque<Row>, count: usize, done: &mut UsedRows)
-    requires there { count ≤ length rows.old.items }
-    ensures { rows.new.items ≡ drop count rows.old.items }
-{
-    for _ in 0..count {
-        let Some(row) = rows.pop_front() else {
-            unreachable!()
-        };
-        done.keep(row);
-    }
-}
-
-// Puts rows behind others. There is room for them.
-fn append(rows: &mut VecDeque<Row>, mut made: VecDeque<Row>)
-    requires room { deque_len rows.old + length made.items ≤ deque_capacity rows.old }
-    ensures { rows.new.items ≡ rows.old.items ++ made.items }
-{
-    while let Some(row) = made.pop_front() {
-        rows.push_back_reserved(row);
     }
 }
 
@@ -228,7 +187,7 @@ pub(crate) fn hand_line(
         (λ one. one.link.kept.made ≤ n + line.outs) outs.new }
 {
     move_all(pending, &mut rows);
-    append(&mut rows, made);
+    join_rows(made, &mut rows);
     pending.fill(rows);
     emit_many(route, pending, outs, line.outs);
 }

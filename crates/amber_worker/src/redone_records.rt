@@ -8,7 +8,7 @@ ghost use Rattle.amber_rows.specs.declared.column.Column.{Column};
 ghost use Rattle.amber_meaning.specs.Refused.{refusal_in};
 ghost use Rattle.amber_meaning.specs.Task.{row_in};
 ghost use Rattle.amber_scan.specs.Shares.{Suits};
-ghost use Rattle.amber_worker.specs.RedoneRows.{lets_by, refused_records, yielded_records};
+ghost use Rattle.amber_worker.specs.RedoneRows.{lets_by, scan_refused, yielded_records};
 ghost use Rattle.amber_worker.specs.Steps.{gives_if};
 
 use crate::letting_by::Gate;
@@ -125,7 +125,7 @@ pub(crate) fn take_records(
     ensures pending { pending.new.items ≡ pending.old.items
         ++ yielded_records share.old.columns (take count share.old.left) }
     ensures refused { refused.new.items
-        ≡ refused.old.items ++ refused_records op (take count share.old.left) }
+        ≡ refused.old.items ++ scan_refused op (take count share.old.left) }
     ensures columns { share.new.columns ≡ share.old.columns }
 {
     for _ in 0..count {

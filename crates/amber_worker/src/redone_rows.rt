@@ -3,7 +3,7 @@
 
 ghost use Rattle.std.specs.Prelude.{Ok, ◌≡◌, ◌+◌, ◌-◌, ◌<◌, ◌≤◌, ◌++◌, [], true, length, take, drop, vec_capacity, vec_len, IfOk, MatchBool};
 ghost use Rattle.std.specs.VecDeque.{deque_capacity, deque_len};
-ghost use Rattle.amber_worker.specs.RedoneRows.{Fits, kept_of, passed_by, yielded_of};
+ghost use Rattle.amber_worker.specs.RedoneRows.{Fits, kept_among, passed_by, yielded_of};
 ghost use Rattle.amber_meaning.specs.Task.{row_in};
 ghost use Rattle.amber_worker.specs.Steps.{is_plain, keeps_if, passed_of};
 
@@ -155,7 +155,7 @@ pub(crate) fn keep_all(
     requires room { vec_len kept.old + count ≤ vec_capacity kept.old }
     ensures rows { rows.new.items ≡ drop count rows.old.items }
     ensures kept { kept.new.items
-        ≡ kept.old.items ++ kept_of OperatorState.Sink columns.now (take count rows.old.items) }
+        ≡ kept.old.items ++ kept_among OperatorState.Sink columns.now (take count rows.old.items) }
 {
     for _ in 0..count {
         let Some(row) = rows.pop_front() else {
@@ -174,6 +174,29 @@ pub(crate) fn move_all(pending: &mut Pending, rows: &mut VecDeque<Row>)
     ensures slots { deque_capacity rows.new ≡ deque_capacity rows.old }
 {
     while let Some(row) = pending.pop_front() {
+        rows.push_back_reserved(row);
+    }
+}
+
+// Takes the first rows of a batch, which are done with.
+pub(crate) fn drop_all(rows: &mut VecDeque<Row>, count: usize, done: &mut UsedRows)
+    requires { count ≤ length rows.old.items }
+    ensures { rows.new.items ≡ drop count rows.old.items }
+{
+    for _ in 0..count {
+        let Some(row) = rows.pop_front() else {
+            unreachable!()
+        };
+        done.keep(row);
+    }
+}
+
+// Puts these rows behind others. There is room for them.
+pub(crate) fn join_rows(mut made: VecDeque<Row>, rows: &mut VecDeque<Row>)
+    requires { deque_len rows.old + length made.items ≤ deque_capacity rows.old }
+    ensures { rows.new.items ≡ rows.old.items ++ made.items }
+{
+    while let Some(row) = made.pop_front() {
         rows.push_back_reserved(row);
     }
 }

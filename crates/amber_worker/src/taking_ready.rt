@@ -5,7 +5,7 @@ ghost use Rattle.std.specs.Prelude.{All, [], false, map, ◌≡◌, ◌+◌, ◌
 ghost use Rattle.std.specs.VecDeque.{deque_capacity, deque_len};
 ghost use Rattle.amber_link.specs.Sides.{without_room};
 ghost use Rattle.amber_worker.specs.Fields.{arrivals_in};
-ghost use Rattle.amber_worker.specs.ReadiedRows.{AreReady, GainsAll, HasFed, HaveRoom, Reading, most_made};
+ghost use Rattle.amber_worker.specs.ReadiedRows.{AreReadied, FeedsReadied, GainsAll, HaveRoom, Reading, most_made, reading_with};
 ghost use Rattle.amber_worker.specs.RowsTaken.{AreSame};
 ghost use Rattle.amber_worker.specs.declared.operator_state.OperatorState.{OperatorState as OneState};
 ghost use Rattle.amber_worker.specs.declared.taking_rows.Rest.{Rest as OneRest};
@@ -13,9 +13,9 @@ ghost use Rattle.amber_worker.specs.declared.taking_rows.Rest.{Rest as OneRest};
 use crate::journal::Journal;
 use crate::operator_state::OperatorState;
 use crate::readied_rows::ReadiedRows;
-use crate::redone_joins::{build_rows, drop_all, join_rows};
+use crate::redone_joins::build_rows;
 use crate::redone_records::take_records;
-use crate::redone_rows::{RowsLine, keep_all, take_all};
+use crate::redone_rows::{RowsLine, drop_all, join_rows, keep_all, take_all};
 use crate::taking_rows::{Gains, Rest};
 use amber_link::{Downstream, reserve_rows};
 use amber_rows::{Row, Schema};
@@ -94,29 +94,12 @@ pub(crate) fn feed_rows(
     operator_state: &mut OperatorState,
     count: usize,
 ) -> Result<(), AllocError>
-    requires { (builds : Bool) × AreReady
-        (record {
-          count = count;
-          columns = columns.now;
-          builds = builds;
-          state = operator_state.old;
-        })
-        rest.old readied.now }
-    ensures ok { OnOk result ((builds : Bool) → AreReady
-        (record {
-          count = count;
-          columns = columns.now;
-          builds = builds;
-          state = operator_state.old;
-        })
-        rest.old readied.now
-        → HasFed
-        (record {
-          count = count;
-          columns = columns.now;
-          builds = builds;
-          state = operator_state.old;
-        })
+    requires { (builds : Bool) × AreReadied
+        (reading_with count columns.now builds operator_state.old) rest.old readied.now }
+    ensures ok { OnOk result ((builds : Bool) → AreReadied
+        (reading_with count columns.now builds operator_state.old) rest.old readied.now
+        → FeedsReadied
+        (reading_with count columns.now builds operator_state.old)
         rest.old rest.new operator_state.new readied.now) }
     ensures share { rest.new.share ≡ rest.old.share }
     ensures left_on_err { OnErr result (arrivals_in rest.new ≡ arrivals_in rest.old) }
@@ -148,13 +131,13 @@ pub(crate) fn take_rows(
     gains: &mut Gains,
 )
     requires ready { (how : Reading) × (before : OneRest) × (state : OneState)
-        × (how.count ≡ count) × (how.columns ≡ columns.now) × AreReady how before readied
-        × HasFed how before rest.old state readied }
+        × (how.count ≡ count) × (how.columns ≡ columns.now) × AreReadied how before readied
+        × FeedsReadied how before rest.old state readied }
     requires room { deque_len rows.old + most_made readied count ≤ deque_capacity rows.old }
     requires kept { HaveRoom count gains.old readied }
     ensures taken { (how : Reading) (before : OneRest) (state : OneState) → how.count ≡ count
-        → how.columns ≡ columns.now → AreReady how before readied
-        → HasFed how before rest.old state readied → GainsAll op how
+        → how.columns ≡ columns.now → AreReadied how before readied
+        → FeedsReadied how before rest.old state readied → GainsAll op how
         (record { left = arrivals_in before; pending = rows.old.items; gains = gains.old })
         (record { left = arrivals_in rest.new; pending = rows.new.items; gains = gains.new }) }
     ensures shares { is_some rest.new.share ≡ is_some rest.old.share }

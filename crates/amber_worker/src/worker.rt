@@ -15,7 +15,6 @@ ghost use Rattle.amber_worker.specs.Changes.{ShowsSet, StandsAtLeg, StandsNew, a
 
 mod beginning;
 mod driven;
-mod emitting;
 mod grouped_lines;
 mod heeding;
 mod linking;

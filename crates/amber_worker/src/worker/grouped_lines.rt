@@ -10,8 +10,8 @@ use super::Worker;
 use super::taking_lines::stays_waved;
 use crate::operator_state::OperatorState;
 use crate::redone_groups::{Fed, feed_rows};
-use crate::redone_made::{drop_rows, ends_with, hand_line, is_done, settle};
-use crate::redone_rows::RowsLine;
+use crate::redone_made::{Offering, ends_with, hand_line, is_done, settle};
+use crate::redone_rows::{RowsLine, drop_all};
 use crate::taking_rows::side_columns;
 use amber_log::Entry;
 use std::alloc::AllocError;
@@ -26,48 +26,34 @@ impl Worker {
         ensures ok { IfOk result (GoesOrNot line self.old self.new) }
         ensures err { OnErr result (self.new ≡ self.old) }
     {
+        let RowsLine { rows, outs, .. } = line;
         let left = self.rest.left();
-        if line.rows > left {
+        if rows > left {
             return Ok(false);
         }
         let OperatorState::Group(state) = &mut self.operator_state else {
             unreachable!()
         };
-        let over = ends_with(line.rows, &self.rest, self.ins.as_slice());
+        let over = ends_with(rows, &self.rest, self.ins.as_slice());
         let columns = side_columns(self.building, &self.build_columns, &self.columns);
-        let batch = &mut self.rest.rows;
-        let count = line.rows as usize;
+        let (batch, count) = (&mut self.rest.rows, rows as usize);
         let Fed { taken, made } = feed_rows(self.alloc, batch, columns, count, over, state)?;
-        let gains = &mut self.gains;
-        let outs = self.outs.as_mut_slice();
-        let waved = self.flags.waved;
-        let mut rows = VecDeque::new(self.alloc);
+        let (gains, waved) = (&mut self.gains, self.flags.waved);
+        let links = self.outs.as_mut_slice();
         let journal = &mut self.journal;
-        let may = settle(
-            line,
-            left,
-            0,
-            &made,
-            &self.when,
-            waved,
-            &gains.pending,
-            outs,
-            journal,
-            &mut rows,
-        );
+        let mut room = VecDeque::new(self.alloc);
+        let offering = Offering::new(left, &gains.pending, &made, &self.when, waved);
+        let may = settle(line, &offering, links, journal, &mut room);
         if !is_done(&may) {
             state.undo_all(taken);
             return may;
         }
-        drop_rows(batch, count, &mut gains.done);
-        hand_line(line, made, rows, &mut gains.pending, &self.route, outs);
-        journal.push(Entry::Go {
-            rows: line.rows,
-            outs: line.outs,
-        });
-        self.taken += line.rows;
-        self.emitted += line.outs;
-        self.flags.waved = stays_waved(waved, line.outs);
+        drop_all(batch, count, &mut gains.done);
+        hand_line(line, made, room, &mut gains.pending, &self.route, links);
+        journal.push(Entry::Go { rows, outs });
+        self.taken += rows;
+        self.emitted += outs;
+        self.flags.waved = stays_waved(waved, outs);
         Ok(true)
     }
 }

@@ -7,8 +7,8 @@ ghost use Rattle.amber_link.specs.declared.upstreams.Upstream.{Upstream as OneUp
 ghost use Rattle.amber_log.specs.Grammar.{AreEntries};
 ghost use Rattle.amber_worker.specs.AtPosition.{IsLookedAt};
 ghost use Rattle.amber_worker.specs.Fields.{rows_moved};
-ghost use Rattle.amber_worker.specs.Redoable.{TakesAt, is_through, may_finish, may_grant, may_hold, may_pause, may_resume};
-ghost use Rattle.amber_worker.specs.Redoing.{AnswersLine, Redoes, hand_before, line_of, steps_in, units_of};
+ghost use Rattle.amber_worker.specs.Redoable.{TakesAt, claims_again, finishes_again, holds_again, is_through, pauses_again, resumes_again};
+ghost use Rattle.amber_worker.specs.Redoing.{AnswersRedone, Redoes, entry_steps, hand_before, log_line, units_of};
 ghost use Rattle.amber_worker.specs.WorkerState.{WorkerState, steps_made};
 ghost use Rattle.amber_worker.specs.declared.redoing.Armed.{Armed as OneArmed};
 
@@ -22,29 +22,29 @@ use std::alloc::AllocError;
 
 impl Worker {
     // Whether it may pause.
-    fn may_pause(&self) -> bool
-        ensures { result ≡ may_pause self.now }
+    fn pauses_again(&self) -> bool
+        ensures { result ≡ pauses_again self.now }
     {
         !self.finished && !self.flags.paused
     }
 
     // Whether it may go on after a pause.
-    fn may_resume(&self) -> bool
-        ensures { result ≡ may_resume self.now }
+    fn resumes_again(&self) -> bool
+        ensures { result ≡ resumes_again self.now }
     {
         self.flags.paused && !self.finished && !self.flags.held
     }
 
     // Whether the next row holds it.
-    fn may_hold(&self, armed: Option<Armed>) -> bool
-        ensures { result ≡ may_hold armed self.now }
+    fn holds_again(&self, armed: Option<Armed>) -> bool
+        ensures { result ≡ holds_again armed self.now }
     {
         !self.stands_still() && self.must_hold() && !lacks_units(armed, 1)
     }
 
     // Whether it may claim units.
-    fn may_grant(&self, armed: Option<Armed>) -> bool
-        ensures { result ≡ may_grant armed self.now }
+    fn claims_again(&self, armed: Option<Armed>) -> bool
+        ensures { result ≡ claims_again armed self.now }
     {
         armed.is_some() && !self.finished
     }
@@ -57,8 +57,8 @@ impl Worker {
     }
 
     // Whether nothing more can come.
-    fn may_finish(&self) -> bool
-        ensures { result ≡ may_finish self.now }
+    fn finishes_again(&self) -> bool
+        ensures { result ≡ finishes_again self.now }
     {
         self.is_through() && have_ended(self.ins.as_slice())
     }
@@ -78,10 +78,10 @@ impl Worker {
     // Pauses, where that may come.
     fn redo_pause(&mut self) -> Result<bool, AllocError>
         ensures ok { IfOk result (λ done. (armed : Option OneArmed)
-            → Redoes (line_of Entry.Pause armed) self.old self.new done) }
+            → Redoes (log_line Entry.Pause armed) self.old self.new done) }
         ensures err { OnErr result (self.new ≡ self.old) }
     {
-        if !self.may_pause() {
+        if !self.pauses_again() {
             return Ok(false);
         }
         self.note(Entry::Pause)?;
@@ -92,10 +92,10 @@ impl Worker {
     // Goes on after a pause, where that may come.
     fn redo_resume(&mut self) -> Result<bool, AllocError>
         ensures ok { IfOk result (λ done. (armed : Option OneArmed)
-            → Redoes (line_of Entry.Resume armed) self.old self.new done) }
+            → Redoes (log_line Entry.Resume armed) self.old self.new done) }
         ensures err { OnErr result (self.new ≡ self.old) }
     {
-        if !self.may_resume() {
+        if !self.resumes_again() {
             return Ok(false);
         }
         self.note(Entry::Resume)?;
@@ -105,10 +105,10 @@ impl Worker {
 
     // Stands before the next row, where that may come.
     fn redo_hold(&mut self, armed: Option<Armed>) -> Result<bool, AllocError>
-        ensures ok { IfOk result (Redoes (line_of Entry.Hold armed) self.old self.new) }
+        ensures ok { IfOk result (Redoes (log_line Entry.Hold armed) self.old self.new) }
         ensures err { OnErr result (self.new ≡ self.old) }
     {
-        if !self.may_hold(armed) {
+        if !self.holds_again(armed) {
             return Ok(false);
         }
         self.note(Entry::Hold)?;
@@ -119,10 +119,10 @@ impl Worker {
     // Claims units, where that may come.
     fn redo_grant(&mut self, n: u64, armed: Option<Armed>) -> Result<bool, AllocError>
         requires some { 0 < n }
-        ensures ok { IfOk result (Redoes (line_of (Entry.Grant n) armed) self.old self.new) }
+        ensures ok { IfOk result (Redoes (log_line (Entry.Grant n) armed) self.old self.new) }
         ensures err { OnErr result (self.new ≡ self.old) }
     {
-        if !self.may_grant(armed) {
+        if !self.claims_again(armed) {
             return Ok(false);
         }
         self.note(Entry::Grant { n })?;
@@ -132,7 +132,7 @@ impl Worker {
     // Gives the whole hand back, where that may come.
     fn redo_back(&mut self, n: u64, armed: Option<Armed>) -> Result<bool, AllocError>
         requires some { 0 < n }
-        ensures ok { IfOk result (Redoes (line_of (Entry.Back n) armed) self.old self.new) }
+        ensures ok { IfOk result (Redoes (log_line (Entry.Back n) armed) self.old self.new) }
         ensures err { OnErr result (self.new ≡ self.old) }
     {
         if hand_of(armed) != u128::from(n) {
@@ -147,11 +147,11 @@ impl Worker {
         requires unarmed { self.old.seat ≡ None }
         requires few { steps_made self.old < 2 ^ 40 }
         ensures ok { IfOk result (λ done. (armed : Option OneArmed)
-            → Redoes (line_of Entry.Finish armed) self.old self.new done) }
+            → Redoes (log_line Entry.Finish armed) self.old self.new done) }
         ensures err { OnErr result (self.new ≡ self.old) }
     {
         self.show_short();
-        if !self.may_finish() {
+        if !self.finishes_again() {
             return Ok(false);
         }
         self.finish(None, Dealing::Nothing)?;
@@ -194,7 +194,7 @@ impl Worker {
         requires unarmed { self.old.seat ≡ None }
         requires few { steps_made self.old < 2 ^ 40 }
         ensures ok { IfOk result (λ done. (armed : Option OneArmed)
-            → Redoes (line_of (Entry.Take from number) armed) self.old self.new done) }
+            → Redoes (log_line (Entry.Take from number) armed) self.old self.new done) }
         ensures err { OnErr result (IsLookedAt self.old self.new) }
     {
         self.show_short();
@@ -213,14 +213,11 @@ impl Worker {
         requires unarmed { self.old.seat ≡ None }
         requires few { steps_made self.old + (rows + outs) ≤ 2 ^ 40 }
         requires follows { AreEntries false (self.old.journal ++ Entry.Go rows outs ∷ []) }
-        ensures ok { IfOk result (Redoes (line_of (Entry.Go rows outs) armed) self.old self.new) }
+        ensures ok { IfOk result (Redoes (log_line (Entry.Go rows outs) armed) self.old self.new) }
         ensures err { OnErr result (self.new ≡ self.old) }
     {
         if self.stands_still() {
             return Ok(false);
-        }
-        if rows == 0 {
-            return self.redo_outs(outs, armed);
         }
         self.redo_line(RowsLine { rows, outs, armed })
     }
@@ -229,8 +226,8 @@ impl Worker {
     fn redo_entry(&mut self, entry: &Entry, armed: Option<Armed>) -> Result<bool, AllocError>
         requires unarmed { self.old.seat ≡ None }
         requires follows { AreEntries false (self.old.journal ++ entry.now ∷ []) }
-        requires few { steps_made self.old + steps_in entry.now ≤ 2 ^ 40 }
-        ensures ok { IfOk result (Redoes (line_of entry.now armed) self.old self.new) }
+        requires few { steps_made self.old + entry_steps entry.now ≤ 2 ^ 40 }
+        ensures ok { IfOk result (Redoes (log_line entry.now armed) self.old self.new) }
         ensures err { OnErr result (IsLookedAt self.old self.new) }
     {
         match entry {
@@ -252,8 +249,8 @@ impl Worker {
         requires unarmed { self.old.seat ≡ None }
         requires follows { AreEntries false (self.old.journal ++ entry.now ∷ []) }
         requires units { hand_before armed + units_of entry.now < 2 ^ 128 }
-        requires few { steps_made self.old + steps_in entry.now ≤ 2 ^ 40 }
-        ensures answers { IfOk result (AnswersLine (line_of entry.now armed) self.old self.new) }
+        requires few { steps_made self.old + entry_steps entry.now ≤ 2 ^ 40 }
+        ensures answers { IfOk result (AnswersRedone (log_line entry.now armed) self.old self.new) }
         ensures err { OnErr result (IsLookedAt self.old self.new) }
     {
         if self.redo_entry(entry, armed)? {

@@ -1,12 +1,11 @@
 -- What is ready is taken.
-use Rattle.std.proofs.Common.{◌≡◌, ◌++◌, ◌∙◌, List, None, Some, ap, append-nil, drop, length, map, refl, subst, sym, take}
+use Rattle.std.proofs.Common.{◌≡◌, ◌++◌, ◌∙◌, None, Some, ap, append-nil, drop, map, refl, subst, sym, take}
 use Rattle.std.proofs.lemmas.List.{drop-map}
-use Rattle.amber_rows.specs.declared.column.Column.{Column}
 use Rattle.amber_meaning.specs.Refused.{refused_in}
 use Rattle.amber_scan.specs.Shares.{ShareState}
 use Rattle.amber_worker.specs.Fields.{arrival_of, arrivals_in, row_from}
-use Rattle.amber_worker.specs.ReadiedRows.{AreBuiltReady, AreKeptReady, AreMadeReady, AreRecordsReady, AreRowsReady, HasBuilt, IsUnfed, Reading, yielded_to}
-use Rattle.amber_worker.specs.RedoneRows.{kept_by, kept_of, refused_records, yielded_records}
+use Rattle.amber_worker.specs.ReadiedRows.{AreBuiltReady, AreKeptReady, AreMadeReady, AreRecordsReady, AreRowsReady, HasBuilt, IsUnfed, yielded_to}
+use Rattle.amber_worker.specs.RedoneRows.{kept_among, kept_by, scan_refused, yielded_records}
 use Rattle.amber_worker.specs.Steps.{is_plain}
 use Rattle.amber_worker.specs.declared.operator_state.OperatorState.{OperatorState}
 use Rattle.amber_worker.specs.declared.operator_state.OperatorState.TheVariants as operator_state
@@ -28,7 +27,7 @@ returns-in-Some-clause-taken c how before state count columns ready fed =
           ((λ i. yielded_records (typed i) (take (sym count i) share.left)) ∙ sym (records-are how before how.count share shared r.scan));
       same = refl;
       refused = c.take_records.ensures.refused ∙ ap (λ l. c.args.gains.now.refused.items ++ l)
-          (ap (λ n. refused_records c.args.op (take n share.left)) (sym count) ∙ sym (ap (λ l. refused_in c.args.op (take how.count l)) all ∙ records-refused c.args.op how.count share.left));
+          (ap (λ n. scan_refused c.args.op (take n share.left)) (sym count) ∙ sym (ap (λ l. refused_in c.args.op (take how.count l)) all ∙ records-refused c.args.op how.count share.left));
       kept = sym (append-nil c.args.gains.now.kept.items) ∙ ap (λ l. c.args.gains.now.kept.items ++ l) (sym (plain-kept how.state how.columns (take how.count (arrivals_in before)) (ap is_plain r.scan)));
     }
 
@@ -66,7 +65,7 @@ returns-in-Kept-clause-taken c how before state count columns ready fed =
       refused = sym (append-nil c.args.gains.now.refused.items) ∙ ap (λ l. c.args.gains.now.refused.items ++ l)
           (sym (ap (λ l. refused_in c.args.op (take how.count l)) all ∙ rows-refused c.args.op rest.from how.count rest.rows.items));
       kept = c.keep_all.ensures.kept ∙ ap (λ l. c.args.gains.now.kept.items ++ l)
-          ((λ i. kept_of operator_state.Sink (sym columns i) (take (sym count i) rest.rows.items))
+          ((λ i. kept_among operator_state.Sink (sym columns i) (take (sym count i) rest.rows.items))
           ∙ sym (ap (λ (d : OperatorState). kept_by d how.columns (take how.count (arrivals_in before))) r.sink
           ∙ ap (λ l. kept_by operator_state.Sink how.columns (take how.count l)) all ∙ sink-kept how.columns rest.from how.count rest.rows.items));
     }

@@ -1,7 +1,7 @@
 -- Each entry by its own call.
 use Rattle.std.proofs.Common.{false}
 use Rattle.amber_log.specs.declared.entry.Entry.TheVariants as entry
-use Rattle.amber_worker.proofs.LinesOuts.{last-entry}
+use Rattle.amber_worker.proofs.LinesRows.{last-entry}
 use Rattle.amber_worker.proofs.Told.{same-looked}
 use Rattle.amber_worker.proofs.worker.Worker.redo_entry.Goals as goal
 

@@ -10,7 +10,8 @@ use Rattle.amber_worker.specs.WorkerState.{WorkerState, steps_made}
 use Rattle.amber_worker.specs.declared.operator_state.OperatorState.TheVariants as operator_state
 use Rattle.amber_worker.proofs.Bounds.{few-sent, written-back}
 use Rattle.amber_worker.proofs.FewRows.{few-rows}
-use Rattle.amber_worker.proofs.LinesFed.{fed-makes, group-batch, is-done, made-goes, made-not, not-done, offer_of, rest-dropped, same-worker}
+use Rattle.amber_worker.proofs.LinesFed.{fed-makes, group-batch, is-done, made-filled, made-may, made-not, not-done, offer_of, rest-dropped, same-behind, same-worker}
+use Rattle.amber_worker.proofs.LinesTaken.{goes-on}
 use Rattle.amber_worker.proofs.ReadiedFacts.{arrivals-batch}
 use Rattle.amber_worker.proofs.Roomless.{still-all}
 use Rattle.amber_worker.proofs.Unchanged.{few-same}
@@ -18,10 +19,10 @@ use Rattle.amber_worker.proofs.worker.Worker.redo_grouped.Goals as goal
 
 pub invariant_of-self-then-not-is_done : goal.invariant_of-self-then-not-is_done
 invariant_of-self-then-not-is_done c =
-    let lent = ap length c.as_mut_slice-outs.ensures.value in
-    let len : c.self.inside.outs.len ≡ length c.self.inside.outs.items = omega (arith, lent, c.as_mut_slice-outs.ensures.len) in
+    let lent = ap length c.as_mut_slice-links.ensures.value in
+    let len : c.self.inside.outs.len ≡ length c.self.inside.outs.items = omega (arith, lent, c.as_mut_slice-links.ensures.len) in
     let stays : length c.settle-may.new.outs ≡ length c.self.inside.outs.items = omega (arith, lent, c.settle-may.auto.outs) in
-    let same = c.settle-may.ensures.same_outs ∙ ap (map without_room) c.as_mut_slice-outs.ensures.value in
+    let same = c.settle-may.ensures.same_outs ∙ ap (map without_room) c.as_mut_slice-links.ensures.value in
     let undone = c.undo_all.ensures ∙ c.in_ok-taken.ensures.back.back in
     let kept = ap operator_state.Group undone ∙ sym c.in-Group.is in
     rw (c.settle-may.ensures.entries, written-back _ _ _ len stays)
@@ -31,10 +32,10 @@ invariant_of-self-then-not-is_done c =
 
 pub returns-then-not-is_done-clause-ok : goal.returns-then-not-is_done-clause-ok
 returns-then-not-is_done-clause-ok c =
-    let lent = ap length c.as_mut_slice-outs.ensures.value in
-    let len : c.self.inside.outs.len ≡ length c.self.inside.outs.items = omega (arith, lent, c.as_mut_slice-outs.ensures.len) in
+    let lent = ap length c.as_mut_slice-links.ensures.value in
+    let len : c.self.inside.outs.len ≡ length c.self.inside.outs.items = omega (arith, lent, c.as_mut_slice-links.ensures.len) in
     let stays : length c.settle-may.new.outs ≡ length c.self.inside.outs.items = omega (arith, lent, c.settle-may.auto.outs) in
-    let same = c.settle-may.ensures.same_outs ∙ ap (map without_room) c.as_mut_slice-outs.ensures.value in
+    let same = c.settle-may.ensures.same_outs ∙ ap (map without_room) c.as_mut_slice-links.ensures.value in
     let undone = c.undo_all.ensures ∙ c.in_ok-taken.ensures.back.back in
     let kept = ap operator_state.Group undone ∙ sym c.in-Group.is in
     let batch = group-batch c.self.inside.rest.share c.self.inside.operator_state c.in-Group.state c.in-Group.is c.self.invariant.scans in
@@ -43,7 +44,7 @@ returns-then-not-is_done-clause-ok c =
     let closes = rw (c.ends_with-over.ensures, c.as_slice.ensures.value) at c.in_ok-taken.ensures.closes in
     let makes = fed-makes c.args.line w c.in-Group.state c.feed_rows.new.state c.self.inside.rest.from c.self.inside.rest.rows.items c.in_ok-taken.field-0.made.items c.in-Group.is
     (arrivals-batch c.self.inside.rest batch) each closes in
-    not-done c.settle-may.result _ _ _ (c.is_done.ensures.not c.if-not-is_done.true) (rw c.left-left.ensures at c.settle-may.ensures.may)
+    not-done c.settle-may.result _ _ _ (c.is_done.ensures.not c.if-not-is_done.true) (rw (c.new-offering.ensures, c.left-left.ensures) at c.settle-may.ensures.may)
     (λ never. (
       subst (MayNotGo c.args.line) c.self.view_is (made-not c.args.line w 0 c.in_ok-taken.field-0.made.items (operator_state.Group c.feed_rows.new.state) makes never),
       same-worker _ _ _ _ _ _ kept (ap (map without_room) (written-back _ _ _ len stays) ∙ same) c.settle-may.ensures.entries c.settle-may.ensures.reserved c.self.view_is,
@@ -53,25 +54,25 @@ pub hand_line-requires-clause-few : goal.hand_line-requires-clause-few
 hand_line-requires-clause-few c =
     let unfinished : c.self.inside.finished ≡ false = ap (λ (w : WorkerState). w.finished) c.self.view_is ∙ c.requires.unfinished in
     let steps = subst (λ w. steps_made w + (c.args.line.rows + c.args.line.outs) ≤ 2 ^ 40) (sym c.self.view_is) c.requires.few in
-    let same = c.settle-may.ensures.same_outs ∙ ap (map without_room) c.as_mut_slice-outs.ensures.value in
+    let same = c.settle-may.ensures.same_outs ∙ ap (map without_room) c.as_mut_slice-links.ensures.value in
     still-all (λ (one : Downstream). one.link.kept.made + c.args.line.outs ≤ 2 ^ 40) c.self.inside.outs.items c.settle-may.new.outs same
     (λ k d less. let h = c.self.invariant.sent unfinished k d less in omega (arith, h, steps))
 
 pub invariant_of-self-2 : goal.invariant_of-self-2
 invariant_of-self-2 c =
-    let lent = ap length c.as_mut_slice-outs.ensures.value in
-    let len : c.self.inside.outs.len ≡ length c.self.inside.outs.items = omega (arith, lent, c.as_mut_slice-outs.ensures.len) in
+    let lent = ap length c.as_mut_slice-links.ensures.value in
+    let len : c.self.inside.outs.len ≡ length c.self.inside.outs.items = omega (arith, lent, c.as_mut_slice-links.ensures.len) in
     let stays : length c.hand_line.new.outs ≡ length c.self.inside.outs.items = omega (arith, lent, c.settle-may.auto.outs, c.hand_line.auto.outs) in
     let steps = subst (λ w. steps_made w + (c.args.line.rows + c.args.line.outs) ≤ 2 ^ 40) (sym c.self.view_is) c.requires.few in
     let unfinished : c.self.inside.finished ≡ false = ap (λ (w : WorkerState). w.finished) c.self.view_is ∙ c.requires.unfinished in
-    let same = c.settle-may.ensures.same_outs ∙ ap (map without_room) c.as_mut_slice-outs.ensures.value in
+    let same = c.settle-may.ensures.same_outs ∙ ap (map without_room) c.as_mut_slice-links.ensures.value in
     let batch = group-batch c.self.inside.rest.share c.self.inside.operator_state c.in-Group.state c.in-Group.is c.self.invariant.scans in
     let w : WorkerState = the_view c.self.inside in
     let each = rw c.side_columns-columns.ensures at c.in_ok-taken.ensures.each in
     let closes = rw (c.ends_with-over.ensures, c.as_slice.ensures.value) at c.in_ok-taken.ensures.closes in
     let makes = fed-makes c.args.line w c.in-Group.state c.feed_rows.new.state c.self.inside.rest.from c.self.inside.rest.rows.items c.in_ok-taken.field-0.made.items c.in-Group.is
     (arrivals-batch c.self.inside.rest batch) each closes in
-    let there : c.args.line.rows ≤ length (arrivals_in c.self.inside.rest) = omega (arith, c.if-line-left.false, c.left-left.ensures) in
+    let there : c.args.line.rows ≤ length (arrivals_in c.self.inside.rest) = omega (arith, c.if-rows-left.false, c.left-left.ensures) in
     rw (c.push.ensures.items, c.settle-may.ensures.entries, written-back _ _ _ len stays)
     (few-rows _ c.args.line.rows c.args.line.outs (operator_state.Group c.feed_rows.new.state) _ (take c.args.line.rows (arrivals_in c.self.inside.rest)) c.self.inside.rest.share c.hand_line.new.outs
     unfinished c.self.invariant makes.becomes (length-take-le c.args.line.rows (arrivals_in c.self.inside.rest) there) (omega (arith, steps)) refl c.self.invariant.typed
@@ -79,19 +80,21 @@ invariant_of-self-2 c =
 
 pub returns-clause-ok : goal.returns-clause-ok
 returns-clause-ok c =
-    let lent = ap length c.as_mut_slice-outs.ensures.value in
-    let len : c.self.inside.outs.len ≡ length c.self.inside.outs.items = omega (arith, lent, c.as_mut_slice-outs.ensures.len) in
+    let lent = ap length c.as_mut_slice-links.ensures.value in
+    let len : c.self.inside.outs.len ≡ length c.self.inside.outs.items = omega (arith, lent, c.as_mut_slice-links.ensures.len) in
     let stays : length c.hand_line.new.outs ≡ length c.self.inside.outs.items = omega (arith, lent, c.settle-may.auto.outs, c.hand_line.auto.outs) in
-    let same = c.settle-may.ensures.same_outs ∙ ap (map without_room) c.as_mut_slice-outs.ensures.value in
+    let same = c.settle-may.ensures.same_outs ∙ ap (map without_room) c.as_mut_slice-links.ensures.value in
     let batch = group-batch c.self.inside.rest.share c.self.inside.operator_state c.in-Group.state c.in-Group.is c.self.invariant.scans in
     let w : WorkerState = the_view c.self.inside in
     let each = rw c.side_columns-columns.ensures at c.in_ok-taken.ensures.each in
     let closes = rw (c.ends_with-over.ensures, c.as_slice.ensures.value) at c.in_ok-taken.ensures.closes in
     let makes = fed-makes c.args.line w c.in-Group.state c.feed_rows.new.state c.self.inside.rest.from c.self.inside.rest.rows.items c.in_ok-taken.field-0.made.items c.in-Group.is
     (arrivals-batch c.self.inside.rest batch) each closes in
-    let may : MayGoOn c.args.line (offer_of 0 c.in_ok-taken.field-0.made.items w) = is-done c.settle-may.result _ (c.is_done.ensures.may c.if-not-is_done.false) (rw c.left-left.ensures at c.settle-may.ensures.may) in
+    let made = c.in_ok-taken.field-0.made.items in
+    let may : MayGoOn c.args.line (offer_of 0 made w) = is-done c.settle-may.result _ (c.is_done.ensures.may c.if-not-is_done.false) (rw (c.new-offering.ensures, c.left-left.ensures) at c.settle-may.ensures.may) in
     let emits = rw same at c.hand_line.ensures.emits in
     let items = rw c.settle-may.ensures.entries at c.push.ensures.items in
     rw (← c.self.view_is, c.push.ensures.reserved, c.settle-may.ensures.reserved)
-    (made-goes c.args.line w 0 c.in_ok-taken.field-0.made.items (operator_state.Group c.feed_rows.new.state) _ _ _ _ _ _ makes may (rest-dropped c.self.inside.rest _ c.args.line.rows batch c.drop_rows.ensures) emits
+    (goes-on w c.args.line _ _ _ _ _ _ _ _ _ _ _ makes.becomes makes.closes (made-may c.args.line w 0 made _ makes may) (rest-dropped c.self.inside.rest _ c.args.line.rows batch c.drop_all.ensures)
+    (made-filled c.args.line w 0 made _ makes) (same-behind w.refused _ makes.refused) (same-behind w.kept _ makes.kept) emits
     (ap (map without_room) (written-back _ _ _ len stays)) items c.stays_waved-self-inside.ensures)

@@ -5,6 +5,7 @@ use Rattle.std.proofs.lemmas.List.{length-take-le}
 use Rattle.amber_link.specs.Sides.{without_room}
 use Rattle.amber_link.specs.declared.downstreams.Downstream.{Downstream}
 use Rattle.amber_scan.specs.Shares.{ShareState}
+use Rattle.amber_worker.specs.contracts.worker.Worker.{the_view}
 use Rattle.amber_worker.specs.Fields.{arrivals_in}
 use Rattle.amber_worker.specs.ReadiedRows.{Reading, yielded_to}
 use Rattle.amber_worker.specs.RedoneRows.{MayNotGo}
@@ -12,7 +13,7 @@ use Rattle.amber_worker.specs.Steps.{is_group}
 use Rattle.amber_worker.specs.WorkerState.{WorkerState, steps_made}
 use Rattle.amber_worker.proofs.Bounds.{few-sent, written-back}
 use Rattle.amber_worker.proofs.FewRows.{few-rows}
-use Rattle.amber_worker.proofs.LinesTaken.{fed-becomes, goes-on, may-not, same-rest}
+use Rattle.amber_worker.proofs.LinesTaken.{apart-closes, apart-filled, apart-may, fed-becomes, goes-on, may-not, same-rest}
 use Rattle.amber_worker.proofs.Roomless.{still-all}
 use Rattle.amber_worker.proofs.Unchanged.{few-same}
 use Rattle.amber_worker.proofs.worker.Worker.redo_rows.Goals as goal
@@ -109,6 +110,7 @@ invariant_of-self-2 c =
 
 pub returns-clause-ok : goal.returns-clause-ok
 returns-clause-ok c =
+    let w : WorkerState = the_view c.self.inside in
     let how : Reading = record { count = c.args.line.rows; columns = c.side_columns-columns.result.now; builds = c.self.inside.building; state = c.self.inside.operator_state } in
     let ready = c.in_ok-readied.ensures.ok in
     let fed = c.in_ok-feed_rows.ensures.ok c.self.inside.building ready in
@@ -131,4 +133,5 @@ returns-clause-ok c =
     let emits = rw same at c.emit_many.ensures.emits in
     let items = rw c.reserve_line.ensures.entries at c.push.ensures.items in
     rw (← c.self.view_is, c.push.ensures.reserved, c.reserve_line.ensures.reserved)
-    (goes-on _ c.args.line _ _ _ _ _ _ _ _ _ _ apart becomes may left all refused kept emits (ap (map without_room) (written-back _ _ _ len stays)) items c.stays_waved-self-inside.ensures)
+    (goes-on w c.args.line c.feed_rows.new.operator_state [] _ _ _ _ _ _ _ _ _ becomes (apart-closes w c.args.line c.feed_rows.new.operator_state apart becomes) (apart-may w c.args.line may) left
+    (apart-filled w c.args.line _ all) refused kept emits (ap (map without_room) (written-back _ _ _ len stays)) items c.stays_waved-self-inside.ensures)

@@ -4,7 +4,7 @@ use Rattle.amber_link.specs.Sides.{have_builders_ended}
 use Rattle.amber_log.specs.declared.entry.Entry.TheVariants as entry
 use Rattle.amber_worker.specs.Fields.{AreShort}
 use Rattle.amber_worker.specs.Redoable.{is_through}
-use Rattle.amber_worker.specs.Redoing.{line_of}
+use Rattle.amber_worker.specs.Redoing.{log_line}
 use Rattle.amber_worker.proofs.LinesFinish.{through-parts}
 use Rattle.amber_worker.proofs.LinesTake.{done-looked, take-cannot, take-done, take-none}
 use Rattle.amber_worker.proofs.Turns.{same-after}
@@ -23,6 +23,6 @@ returns-clause-ok c = λ armed.
     let looked = c.next_from.ensures.looked in
     let through = same-after old between looked (λ w. is_through w ≡ true) (sym c.is_through.ensures ∙ c.if-not-is_through.false) in
     let short = same-after old between looked (λ w. AreShort w.journal) c.show_short.ensures in
-    done-looked (line_of (entry.Take c.args.from c.args.number) armed) old between c.take_next_of.new.self looked
+    done-looked (log_line (entry.Take c.args.from c.args.number) armed) old between c.take_next_of.new.self looked
     (take-done c.in-Some.place c.args.from c.args.number between c.take_next_of.new.self armed (have_builders_ended between.ins) (through-parts between through) short
     c.in_ok-take_next_of.ensures.ok c.in-Some.ensures.next)
