@@ -1,11 +1,15 @@
 //! Links of which a test holds both ends. Tests `amber_link`.
 
-ghost use Rattle.std.specs.Prelude.{◌≡◌, ◌+◌, ◌^◌, ◌≤◌, OnOk, false};
+ghost use Rattle.std.specs.Prelude.{◌≡◌, ◌+◌, ◌^◌, ◌<◌, ◌≤◌, All, IfOk, OnOk, false, length, slice_index_or};
+ghost use Rattle.amber_link.specs.declared.downstreams.Downstream.{Downstream as OneDownstream};
 
 use crate::ends::push;
 use crate::expected::expect_text;
-use amber_link::{In, NoMemory, Out, Sent, link, settle};
-use amber_rows::{Batch, Row};
+use amber_link::{
+    Downstream, In, NoMemory, Out, Sent, link, push_at, reserve_each, reserve_rows, send_all,
+    settle,
+};
+use amber_rows::{Batch, Row, Value};
 use std::alloc::Global;
 use std::test::Fail;
 
@@ -123,4 +127,66 @@ fn rows_that_were_given_back_come_back(rt: HostRuntime) -> Result<(), Fail> {
     push(alloc, &mut out, 8)?;
     settle(&mut out, &mut into)?;
     expect_text(given(alloc, &mut into)?, "1: 8 | ")
+}
+
+// Two receivers for whom nothing was made yet, and their ends.
+fn two_receivers(alloc: Global) -> Result<(Vec<Downstream>, In, In), NoMemory>
+    ensures two { IfOk result (λ made. length made.0.items ≡ 2) }
+    ensures open { IfOk result (λ made. All (λ one. one.link.kept.ended ≡ false) made.0.items) }
+    ensures none { IfOk result (λ made. All (λ one. one.link.kept.made ≡ 0) made.0.items) }
+{
+    let (first, to_first) = link(alloc, 1)?;
+    let (second, to_second) = link(alloc, 1)?;
+    let mut outs = Vec::new(alloc);
+    outs.push(Downstream::new(7, first))?;
+    outs.push(Downstream::new(8, second))?;
+    Ok((outs, to_first, to_second))
+}
+
+// A row of one number.
+fn row_of(alloc: Global, number: i64) -> Result<Row, NoMemory> {
+    let mut cells = Vec::new(alloc);
+    cells.push(Value::Int(number))?;
+    Ok(Row::new(cells))
+}
+
+// Makes room for a row each, and then for two rows and for one.
+fn make_room(outs: &mut [Downstream]) -> Result<(), NoMemory>
+    requires two { length outs.old ≡ 2 }
+    requires open { All (λ one. one.link.kept.ended ≡ false) outs.old }
+    requires none { All (λ one. one.link.kept.made ≡ 0) outs.old }
+    ensures two { length outs.new ≡ 2 }
+    ensures open { All (λ one. one.link.kept.ended ≡ false) outs.new }
+    ensures few { All (λ one. one.link.kept.made ≤ 0) outs.new }
+    ensures first { OnOk result ((d : OneDownstream) → 2 < (slice_index_or outs.new 0 d).link.kept.room) }
+    ensures second { OnOk result ((d : OneDownstream) → 1 < (slice_index_or outs.new 1 d).link.kept.room) }
+{
+    reserve_rows(outs, 1)?;
+    reserve_each(outs, &[2, 1])
+}
+
+// Pushes three rows, two of them for the first of two receivers.
+fn push_three(alloc: Global, outs: &mut [Downstream]) -> Result<(), NoMemory>
+    requires two { length outs.old ≡ 2 }
+    requires open { All (λ one. one.link.kept.ended ≡ false) outs.old }
+    requires none { All (λ one. one.link.kept.made ≡ 0) outs.old }
+{
+    let first = row_of(alloc, 1)?;
+    let second = row_of(alloc, 2)?;
+    let third = row_of(alloc, 3)?;
+    make_room(outs)?;
+    push_at(outs, 0, first);
+    push_at(outs, 1, second);
+    push_at(outs, 0, third);
+    send_all(outs);
+    Ok(())
+}
+
+#[test]
+fn rows_for_which_room_was_made_go_to_their_receivers(rt: HostRuntime) -> Result<(), Fail> {
+    let alloc = rt.alloc();
+    let (mut outs, mut to_first, mut to_second) = two_receivers(alloc)?;
+    push_three(alloc, outs.as_mut_slice())?;
+    expect_text(given(alloc, &mut to_first)?, "0: 1 | 1: 3 | ")?;
+    expect_text(given(alloc, &mut to_second)?, "0: 2 | ")
 }

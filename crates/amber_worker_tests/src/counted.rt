@@ -35,7 +35,7 @@ fn board_of(alloc: Global, units: u64) -> Result<(Board, WorkSeat), Fail>
 // once it is disarmed.
 fn count_with<M: Mail>(
     alloc: Global,
-    mut worker: Worker,
+    worker: &mut Worker,
     units: u64,
     mail: &mut M,
     budget: u32,
@@ -47,7 +47,7 @@ fn count_with<M: Mail>(
     }
     let (board, seat) = board_of(alloc, units)?;
     worker.arm(seat);
-    let what = drive_on(alloc, &mut worker, Some(&board), mail, &OpenGate, budget)?;
+    let what = drive_on(alloc, worker, Some(&board), mail, &OpenGate, budget)?;
     worker.reserve()?;
     let _seat = worker.disarm(&board);
     let entries = entries_text(alloc, worker.journal())?;
@@ -57,7 +57,7 @@ fn count_with<M: Mail>(
 /// The same under a plan, a turn for each of its letters.
 pub fn count_under(
     alloc: Global,
-    worker: Worker,
+    worker: &mut Worker,
     units: u64,
     letters: &str,
 ) -> Result<String, Fail> {
@@ -110,8 +110,8 @@ fn units_are_claimed_counted_and_given_back(rt: HostRuntime) -> Result<(), Fail>
         ),
         (3, "r", "1 moved | t 0 0 | 0 4 0 0; t 0 0 "),
     ] {
-        let filter = filter_watching(alloc, 9)?;
-        expect_text(count_under(alloc, filter, units, letters)?, want)?;
+        let mut filter = filter_watching(alloc, 9)?;
+        expect_text(count_under(alloc, &mut filter, units, letters)?, want)?;
     }
     Ok(())
 }
@@ -130,8 +130,8 @@ fn a_worker_is_starved_before_its_row_is_looked_at(rt: HostRuntime) -> Result<()
             "4 starved | a 1 0 t 0 0 g 1 0 b 1 0 | 1 3 0 1; a 1 0 t 0 0 g 1 0 b 1 0 ",
         ),
     ] {
-        let filter = filter_watching(alloc, 1)?;
-        expect_text(count_under(alloc, filter, 1, letters)?, want)?;
+        let mut filter = filter_watching(alloc, 1)?;
+        expect_text(count_under(alloc, &mut filter, 1, letters)?, want)?;
     }
     Ok(())
 }
@@ -142,9 +142,9 @@ fn a_worker_is_starved_before_its_row_is_looked_at(rt: HostRuntime) -> Result<()
 fn a_starved_worker_notes_it_once_until_units_come(rt: HostRuntime) -> Result<(), Fail> {
     let alloc = rt.alloc();
     let mut mail = KeepingMail::new(alloc, 4);
-    let filter = filter_watching(alloc, 9)?;
+    let mut filter = filter_watching(alloc, 9)?;
     expect_text(
-        count_with(alloc, filter, 2, &mut mail, 9)?,
+        count_with(alloc, &mut filter, 2, &mut mail, 9)?,
         "9 starved | t 0 0 a 2 0 g 2 2 | 2 2 2 0; t 0 0 a 2 0 g 2 2 ",
     )?;
     expect_text(

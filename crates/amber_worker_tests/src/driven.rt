@@ -23,13 +23,16 @@ const FILTERED: &str = r#"{"operators":[
 {"id":"f","kind":"filter","input":"s","column":"k","op":">=","constant":0},
 {"id":"o","kind":"sink","input":"f"}]}"#;
 
-// A filter, and the end of its sender, with the rows from 1 on in one batch, which is the last and waits to be sent.
+// How many rows a full batch of its sender has.
+const FULL: u32 = 400;
+
+// A filter, and the end of its sender, with the rows from 1 on, the end after them, all of it waiting to be sent.
 fn filter_before(alloc: Global, rows: u32) -> Result<(Worker, Out), Fail> {
-    let (mut senders, ins) = links(alloc, 1, BATCH)?;
-    let (outs, _into) = links(alloc, 1, BATCH)?;
+    let (mut senders, ins) = links(alloc, 1, FULL)?;
+    let (outs, _into) = links(alloc, 1, FULL)?;
     let flow = read_flow(alloc, FILTERED.as_bytes())?;
-    let filter = worker_of(alloc, &flow, 1, BATCH, outs, ins)?;
-    let mut out = last_end(BATCH, &mut senders)?;
+    let filter = worker_of(alloc, &flow, 1, FULL, outs, ins)?;
+    let mut out = last_end(FULL, &mut senders)?;
     fill(alloc, &mut out, rows)?;
     out.end()?;
     Ok((filter, out))
@@ -77,9 +80,6 @@ fn a_row_holds_a_worker(rt: HostRuntime) -> Result<(), Fail> {
 
 // ---- many matches
 
-// Rows of a batch in which many stand.
-const LARGE: u32 = 65536;
-
 // Sends so many rows of one key, and then the end.
 fn deliver_times(alloc: Global, mut out: Out, times: u32) -> Result<(), NoMemory>
     requires made { out.kept.made ≡ 0 }
@@ -95,12 +95,12 @@ fn deliver_times(alloc: Global, mut out: Out, times: u32) -> Result<(), NoMemory
 
 // A join in whose rings so many rows of the build side stand, and one row of the probe side that matches them all.
 fn join_over(alloc: Global, matches: u32) -> Result<Worker, Fail> {
-    let (mut senders, ins) = links(alloc, 2, LARGE)?;
-    let (outs, _into) = links(alloc, 1, LARGE)?;
+    let (mut senders, ins) = links(alloc, 2, BATCH)?;
+    let (outs, _into) = links(alloc, 1, BATCH)?;
     let flow = read_flow(alloc, JOINED.as_bytes())?;
-    let join = worker_of(alloc, &flow, 2, LARGE, outs, ins)?;
-    deliver_times(alloc, last_end(LARGE, &mut senders)?, 1)?;
-    deliver_times(alloc, last_end(LARGE, &mut senders)?, matches)?;
+    let join = worker_of(alloc, &flow, 2, BATCH, outs, ins)?;
+    deliver_times(alloc, last_end(BATCH, &mut senders)?, 1)?;
+    deliver_times(alloc, last_end(BATCH, &mut senders)?, matches)?;
     Ok(join)
 }
 

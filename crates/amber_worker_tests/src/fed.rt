@@ -13,8 +13,8 @@ use amber_worker::Worker;
 use std::alloc::Global;
 use std::test::Fail;
 
-/// How many rows a full batch has.
-pub const BATCH: u32 = 400;
+/// How many rows a full batch has, the most that one may have.
+pub const BATCH: u32 = 65536;
 
 /// The workers 0 to 3: a scan, a filter that passes a row whose first number is not negative, a group, and a sink.
 pub const GROUPED: &str = r#"{"operators":[

@@ -27,7 +27,13 @@ mod judge;
 #[cfg(test)]
 mod keeping;
 #[cfg(test)]
+mod lines;
+#[cfg(test)]
+mod long_lines;
+#[cfg(test)]
 mod plans;
+#[cfg(test)]
+mod redone;
 #[cfg(test)]
 mod told;
 #[cfg(test)]

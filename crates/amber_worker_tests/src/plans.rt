@@ -5,22 +5,24 @@ use crate::counted::count_under;
 use crate::fed::{GROUPED, JOINED, fed_worker, watch_from};
 use crate::judge::{Item, Work, judged};
 use crate::told::{answers_of, drive_under};
+use amber_worker::Worker;
 use std::alloc::{AllocError, Global};
 use std::test::Fail;
 
-// A worker with the rows of its senders; the items that it comes to; and the number in a column from which on a row holds it,
+/// A worker with the rows of its senders; the items that it comes to; and the number in a column from which on a row holds it,
 // with the rows that this holds of those that come of the items.
 #[derive(Clone, Copy)]
-struct Case<'a> {
-    flow: &'a str,
-    number: u32,
-    sides: &'a [&'a [[i64; 2]]],
+pub struct Case<'a> {
+    pub flow: &'a str,
+    pub number: u32,
+    pub sides: &'a [&'a [[i64; 2]]],
     items: &'a [Item],
-    watched: (u32, i64),
+    pub watched: (u32, i64),
     holds: &'a [u64],
 }
 
-const FILTER: Case<'static> = Case {
+/// A filter.
+pub const FILTER: Case<'static> = Case {
     flow: GROUPED,
     number: 1,
     sides: &[&[[1, 0], [-1, 0], [2, 0], [3, 0]]],
@@ -35,7 +37,8 @@ const FILTER: Case<'static> = Case {
     holds: &[2],
 };
 
-const JOIN: Case<'static> = Case {
+/// A join.
+pub const JOIN: Case<'static> = Case {
     flow: JOINED,
     number: 2,
     sides: &[&[[7, 1], [7, 2], [8, 3]], &[[7, 9], [6, 9], [8, 1]]],
@@ -53,7 +56,8 @@ const JOIN: Case<'static> = Case {
     holds: &[1, 2],
 };
 
-const GROUP: Case<'static> = Case {
+/// A group.
+pub const GROUP: Case<'static> = Case {
     flow: GROUPED,
     number: 2,
     sides: &[&[[5, 0], [6, 0], [6, 1]]],
@@ -62,7 +66,8 @@ const GROUP: Case<'static> = Case {
     holds: &[1],
 };
 
-const SINK: Case<'static> = Case {
+/// A sink.
+pub const SINK: Case<'static> = Case {
     flow: GROUPED,
     number: 3,
     sides: &[&[[5, 2], [6, 1]]],
@@ -71,8 +76,8 @@ const SINK: Case<'static> = Case {
     holds: &[],
 };
 
-// A plan of 40 looks, a letter each, of this seed: of 16 looks one pauses, four claim, two return, and nine say nothing.
-fn letters_of(alloc: Global, seed: u64) -> Result<String, AllocError> {
+/// A plan of 40 looks, a letter each, of this seed: of 16 looks one pauses, four claim, two return, and nine say nothing.
+pub fn letters_of(alloc: Global, seed: u64) -> Result<String, AllocError> {
     let mut letters = String::new(alloc);
     let mut state = seed;
     for _ in 0..40 {
@@ -89,6 +94,28 @@ fn letters_of(alloc: Global, seed: u64) -> Result<String, AllocError> {
     Ok(letters)
 }
 
+/// The worker of a case, with or without its condition.
+pub fn worker_in(alloc: Global, case: &Case, watches: bool) -> Result<Worker, Fail> {
+    let mut worker = fed_worker(alloc, case.flow, case.number, case.sides)?;
+    if watches {
+        watch_from(&mut worker, case.watched.0, case.watched.1)?;
+    }
+    Ok(worker)
+}
+
+/// What a worker tells that is driven under a plan, with a count that has so many units, or without.
+pub fn drive_or_count(
+    alloc: Global,
+    worker: &mut Worker,
+    units: Option<u64>,
+    letters: &str,
+) -> Result<String, Fail> {
+    match units {
+        None => drive_under(alloc, worker, letters, 40),
+        Some(units) => count_under(alloc, worker, units, letters),
+    }
+}
+
 // What the worker of a case tells.
 fn found(
     alloc: Global,
@@ -97,14 +124,8 @@ fn found(
     units: Option<u64>,
     letters: &str,
 ) -> Result<String, Fail> {
-    let mut worker = fed_worker(alloc, case.flow, case.number, case.sides)?;
-    if watches {
-        watch_from(&mut worker, case.watched.0, case.watched.1)?;
-    }
-    match units {
-        None => drive_under(alloc, &mut worker, letters, 40),
-        Some(units) => count_under(alloc, worker, units, letters),
-    }
+    let mut worker = worker_in(alloc, case, watches)?;
+    drive_or_count(alloc, &mut worker, units, letters)
 }
 
 // Expects that the worker tells what the judge says.

@@ -1,7 +1,8 @@
 //! Workers that are driven by hand, with the ends of their links from `ends`. Tests `amber_worker`.
 
-ghost use Rattle.std.specs.Prelude.{◌≡◌, ◌<◌, ◌≤◌, All};
+ghost use Rattle.std.specs.Prelude.{◌≡◌, ◌<◌, ◌≤◌, All, IfOk, None};
 ghost use Rattle.amber_rows.specs.Topology.{crew_of, op_of, what_at};
+ghost use Rattle.amber_worker.specs.Changes.{StandsNew};
 ghost use Rattle.amber_worker.specs.Made.{IsFreshIn, IsFreshOut};
 
 use crate::ends::{deliver, last_end, links};
@@ -37,6 +38,9 @@ pub fn worker_of(
     requires few { batch ≤ 65536 }
     requires outs { All (IsFreshOut batch) outs.items }
     requires ins { All IsFreshIn ins.items }
+    ensures stands { IfOk result (StandsNew
+        (record { flow = flow.now; number = number; batch_size = batch; share = None })) }
+    ensures unarmed { IfOk result (λ made. made.seat ≡ None) }
 {
     if number >= flow.workers() || what_of(flow, number).is_scan() {
         return Err(Fail::new("no such worker"));
@@ -121,6 +125,37 @@ fn a_filter_feeds_a_group_of_four(rt: HostRuntime) -> Result<(), Fail> {
         expect_text(waiting_after(alloc, number)?, want)?;
     }
     Ok(())
+}
+
+// The filter of this workflow, with links of its own, of which it has the sender too.
+fn filter_in(alloc: Global, flow: &Flow) -> Result<(Worker, Vec<Out>), Fail>
+    ensures stands { IfOk result (λ made. StandsNew
+        (record { flow = flow.now; number = 1; batch_size = 1; share = None }) made.0) }
+    ensures unarmed { IfOk result (λ made. made.0.seat ≡ None) }
+    ensures senders { IfOk result (λ made. All (IsFreshOut 1) made.1.items) }
+{
+    let (senders, ins) = links(alloc, 1, 1)?;
+    let (outs, _into) = links(alloc, 4, 1)?;
+    let filter = worker_of(alloc, flow, 1, 1, outs, ins)?;
+    Ok((filter, senders))
+}
+
+// For whom a batch waits once the filter has become one that was made anew, and a row came to the first one's link.
+fn waiting_replaced(alloc: Global, number: i64) -> Result<String, Fail> {
+    let flow = read_flow(alloc, KEYED.as_bytes())?;
+    let (mut filter, mut senders) = filter_in(alloc, &flow)?;
+    let (made, _others) = filter_in(alloc, &flow)?;
+    filter.replace_with(made);
+    deliver(alloc, last_end(1, &mut senders)?, number, false)?;
+    drive(&mut filter)?;
+    Ok(waiting(alloc, &filter)?)
+}
+
+#[test]
+fn a_filter_that_was_replaced_keeps_its_links(rt: HostRuntime) -> Result<(), Fail> {
+    let alloc = rt.alloc();
+    expect_text(waiting_replaced(alloc, 1)?, "2 - - - ")?;
+    expect_text(waiting_replaced(alloc, 3)?, "- - 4 - ")
 }
 
 // ---- a join with two senders a side

@@ -4,4 +4,4 @@ use Rattle.amber_worker.specs.Made.{IsFreshOut}
 use Rattle.amber_worker_tests.proofs.fed.deliver_sides.Given as goal
 
 abbrev pub invariant-loop-rows : goal.invariant-loop-rows
-invariant-loop-rows l = record { senders : All (IsFreshOut 400) l.senders.items }
+invariant-loop-rows l = record { senders : All (IsFreshOut 65536) l.senders.items }
