@@ -1,6 +1,7 @@
 pub mod AllSettled
 pub mod Answered
 pub mod Begun
+pub mod Behind
 pub mod Changed
 pub mod Copies
 pub mod Crews
@@ -11,11 +12,13 @@ pub mod Gathered
 pub mod Going
 pub mod GoneOn
 pub mod Kept
+pub mod InHands
 pub mod Linked
 pub mod Links
 pub mod Listed
 pub mod Numbered
 pub mod Numbers
+pub mod Offered
 pub mod OnePlace
 pub mod OperatorNumbers
 pub mod Orderly
@@ -23,8 +26,12 @@ pub mod PartFacts
 pub mod Passed
 pub mod PutAt
 pub mod Reached
+pub mod RedoneLegs
+pub mod RedoneLines
+pub mod RedoneParts
 pub mod Refusing
 pub mod Renewed
+pub mod Replaced
 pub mod Resumed
 pub mod Said
 pub mod Seated

@@ -4,7 +4,7 @@ use Rattle.std.specs.List.{list_any}
 use Rattle.amber_worker.specs.Pairs.{AreJoined}
 use Rattle.amber_worker.specs.WorkerState.{WorkerState}
 use Rattle.amber_dataflow.specs.AtWork.{AreJoinedAt, IsJoinedCrew, IsSameBesides, StayPut, worker_state_at}
-use Rattle.amber_dataflow.specs.Passing.{AreSameBesides, Come, IsSettledAt, PassedOn, Settled, SettledStay}
+use Rattle.amber_dataflow.specs.Passing.{AreSameBesides, Come, IsSettledAt, MayPass, PassedOn, Settled, SettledStay}
 use Rattle.amber_dataflow.proofs.Crews.{at-each, here-now, joined-stays, there-still}
 use Rattle.amber_dataflow.proofs.Linked.{come-aside, come-settled, settled-aside, settled-beside, settled-same}
 use Rattle.amber_dataflow.proofs.Numbers.{length-put}
@@ -41,14 +41,6 @@ pub stay-then : (a b c : List WorkerState) → length b ≡ length a → Settled
 stay-then a b c long first second from to before there settled = second from to before (rw long there) (first from to before there settled)
 
 -- ---- batches may go on
-
--- what the settling of a link asks for
-pub record MayPass (crew : List WorkerState) (from to : ℕ) : Type 0 where
-  pub before : from < to
-  pub there : to < length crew
-  pub sends : list_any (λ one. nat_eq one.to (worker_state_at crew to).number) (worker_state_at crew from).outs ≡ true
-  pub receives : list_any (λ one. nat_eq one.from (worker_state_at crew from).number) (worker_state_at crew to).ins ≡ true
-  pub joined : AreJoined (worker_state_at crew from) (worker_state_at crew to)
 
 pub can-pass : (crew : List WorkerState) (from to : ℕ) → IsJoinedCrew crew → from < length crew
     → list_any (λ one. nat_eq one.to to) (worker_state_at crew from).outs ≡ true → MayPass crew from to

@@ -3,4 +3,6 @@ pub mod AtWork
 pub mod Dataflow
 pub mod Parts
 pub mod Passing
+pub mod Redoing
+pub mod Replacing
 pub mod Start

@@ -2,7 +2,7 @@
 use Rattle.std.specs.Prelude.{◌≡◌, ℕ, ◌<◌, ◌==◌, List, length, slice_set, true}
 use Rattle.std.specs.List.{list_any}
 use Rattle.amber_worker.specs.AtPosition.{HasSameEnds}
-use Rattle.amber_worker.specs.Pairs.{AreSettledAt, PassesOn, StaysAt}
+use Rattle.amber_worker.specs.Pairs.{AreJoined, AreSettledAt, PassesOn, StaysAt}
 use Rattle.amber_worker.specs.WorkerState.{WorkerState}
 use Rattle.amber_dataflow.specs.AtWork.{AllHasCome, IsSameBesides, StayPut, worker_state_at}
 
@@ -13,6 +13,14 @@ Settled crew from to = AreSettledAt (worker_state_at crew from) (worker_state_at
 -- all that the one has sent to the other has come there
 abbrev pub Come : List WorkerState → ℕ → ℕ → Type 0
 Come crew from to = AllHasCome (worker_state_at crew from) (worker_state_at crew to)
+
+-- what the settling of a link asks for
+pub record MayPass (crew : List WorkerState) (from to : ℕ) : Type 0 where
+  pub before : from < to
+  pub there : to < length crew
+  pub sends : list_any (λ one. one.to == (worker_state_at crew to).number) (worker_state_at crew from).outs ≡ true
+  pub receives : list_any (λ one. one.from == (worker_state_at crew from).number) (worker_state_at crew to).ins ≡ true
+  pub joined : AreJoined (worker_state_at crew from) (worker_state_at crew to)
 
 -- a worker's batches went on to another one, and nothing else has changed
 pub record PassedOn (old : List WorkerState) (from to : ℕ) (new : List WorkerState) : Type 0 where

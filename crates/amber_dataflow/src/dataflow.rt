@@ -14,6 +14,7 @@ ghost use Rattle.amber_dataflow.specs.AtWork.{steps_by};
 ghost use Rattle.amber_dataflow.specs.Dataflow.{AreAllThere, AreInArmedLeg, AreBack, AreCrewOf, AreFree, AreHeldByRows, HaveDoneNothing, IsAnswerOf, IsFirst, ShowAt, StandAgain, StandAt, StandsUnder, StepsAt};
 ghost use Rattle.amber_dataflow.specs.Dataflow.{all_resumed, constant_put, handed_out, is_armed_at, is_short, leg_begun, leg_parts, row_dropped, seat_of, step_count, when_put, without_workers};
 
+mod replacing;
 mod units;
 
 use crate::counts::{emitted_by, have_finished, steps_of};
@@ -172,6 +173,15 @@ impl Dataflow {
         ensures none { self.new ≡ without_workers self.old }
     {
         mem::replace(&mut self.workers, Vec::new(alloc))
+    }
+
+    /// The same, into a list that is emptied before.
+    pub fn lend_to(&mut self, others: &mut Vec<Worker>)
+        ensures workers { others.new.items ≡ self.old.workers }
+        ensures none { self.new ≡ without_workers self.old }
+    {
+        mem::swap(&mut self.workers, others);
+        self.workers.clear();
     }
 
     /// Takes workers of this workflow in, wherever they stand. All that they have made goes on to its receivers. After

@@ -15,10 +15,12 @@
 
 mod counts;
 pub mod dataflow;
+pub mod emptying;
 mod gathering;
 mod journals;
 mod linking;
 mod new_workers;
+pub mod redoing;
 mod setting;
 mod settling;
 mod shares;
@@ -27,4 +29,6 @@ mod turning;
 mod views;
 
 pub use dataflow::Dataflow;
+pub use emptying::empty_hands;
+pub use redoing::{PartRedone, redo_entries};
 pub use std::alloc::AllocError as NoMemory;

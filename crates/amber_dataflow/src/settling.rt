@@ -5,21 +5,29 @@ ghost use Rattle.std.specs.Prelude.{◌≡◌, ◌≢◌, ◌<◌, ◌==◌, ℕ
 ghost use Rattle.std.specs.List.{list_any};
 ghost use Rattle.amber_link.specs.declared.downstreams.Downstream.{Downstream};
 ghost use Rattle.amber_dataflow.specs.AtWork.{IsJoinedCrew, StayPut, worker_state_at};
-ghost use Rattle.amber_dataflow.specs.Passing.{AreAllSettled, AreSameBesides, Come, IsSettledAt, PassedOn, Settled, SettledStay};
+ghost use Rattle.amber_dataflow.specs.Passing.{AreAllSettled, AreSameBesides, Come, IsSettledAt, MayPass, PassedOn, Settled, SettledStay};
 
 use amber_worker::{Worker, settle_workers};
 use std::alloc::AllocError;
 
-// Moves the batches that a worker has made for another one, to which it sends, into that one's
-// inbox. A receiver stands after its senders.
+/// Moves the batches that a worker has made for another one, to which it sends, into that one's
+/// inbox.
+pub(crate) fn pass_between(crew: &mut [Worker], from: usize, to: usize) -> Result<(), AllocError>
+    requires { MayPass crew.old from to }
+    ensures { OnOk result (PassedOn crew.old from to crew.new) }
+{
+    let (senders, receivers) = crew.split_at_mut(to);
+    settle_workers(&mut senders[from], &mut receivers[0])
+}
+
+// The same of workers that stand somewhere. A receiver stands after its senders.
 fn pass_on(crew: &mut [Worker], from: usize, to: usize) -> Result<(), AllocError>
     requires crew { IsJoinedCrew crew.old }
     requires there { from < length crew.old }
     requires sends { list_any (λ one. one.to == to) (worker_state_at crew.old from).outs ≡ true }
     ensures { OnOk result (PassedOn crew.old from to crew.new) }
 {
-    let (senders, receivers) = crew.split_at_mut(to);
-    settle_workers(&mut senders[from], &mut receivers[0])
+    pass_between(crew, from, to)
 }
 
 // Moves on what waits for the receiver at a place.
