@@ -27,7 +27,7 @@ use Rattle.amber_home.specs.declared.phase.Phase.TheVariants as phase
 -- ---- lists of workers
 
 -- two lists as long as each other, of whom each worker was driven for as many turns
-turned-same : (old new : List WorkerState) → length new ≡ length old → ((worker : ℕ) → (worker_state_at new worker).turned ≡ (worker_state_at old worker).turned)
+pub turned-same : (old new : List WorkerState) → length new ≡ length old → ((worker : ℕ) → (worker_state_at new worker).turned ≡ (worker_state_at old worker).turned)
     → turned_by new ≡ turned_by old
 turned-same [] [] long same = refl
 turned-same [] (w ∷ new) long same = absurd (omega arith)
@@ -147,6 +147,7 @@ turned-open live phase.Resting within = refl
 turned-open live (phase.Open to_end counts) within = refl
 turned-open live (phase.Lent to_end) within = absurd (false≢true within)
 turned-open live (phase.Unsettled to_end) within = absurd (false≢true within)
+turned-open live (phase.Redoing to_end empty) within = absurd (false≢true within)
 turned-open live phase.Over within = absurd (false≢true within)
 turned-open live phase.Spent within = absurd (false≢true within)
 
@@ -156,6 +157,7 @@ turned-apart live phase.Resting apart back = absurd (false≢true back)
 turned-apart live (phase.Open to_end counts) apart back = absurd (false≢true (sym apart))
 turned-apart live (phase.Lent to_end) apart back = absurd (false≢true back)
 turned-apart live (phase.Unsettled to_end) apart back = refl
+turned-apart live (phase.Redoing to_end empty) apart back = absurd (false≢true back)
 turned-apart live phase.Over apart back = absurd (false≢true back)
 turned-apart live phase.Spent apart back = absurd (false≢true back)
 
@@ -183,6 +185,19 @@ home-driven {e} {live} turned home = record { few = home.few; legal = home.legal
       away = record { more = back.away.more; in_force = back.away.in_force };
       workers = record { positions = back.workers.positions; at = back.workers.at; few = back.workers.few };
       ready = back.ready;
+    }
+    by (phase.Redoing to_end empty) back = record {
+      away = record { more = back.away.more; in_force = back.away.in_force };
+      positions = back.positions;
+      stand = back.stand;
+      worked = back.worked;
+      few = back.few;
+      seats = back.seats;
+      fresh = back.fresh;
+      empty_handed = back.empty_handed;
+      full_handed = back.full_handed;
+      none = back.none;
+      targets = back.targets;
     }
     by phase.Over home = tt
     by phase.Spent home = tt

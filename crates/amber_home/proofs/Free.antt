@@ -53,6 +53,7 @@ module _ (e : HomeState) (live : LiveState) where
   rows-open phase.Over home within = absurd (false≢true within)
   rows-open (phase.Lent to_end) home within = absurd (false≢true within)
   rows-open (phase.Unsettled to_end) home within = absurd (false≢true within)
+  rows-open (phase.Redoing to_end empty) home within = absurd (false≢true within)
   rows-open phase.Spent home within = absurd (false≢true within)
   rows-open (phase.Open to_end counts) home within = rows-within to_end (record e { phase = phase.Open to_end counts }) live.dataflow live.arms home.stands.0 home.legal
 

@@ -33,6 +33,7 @@ open-there (phase.Open to_end counts) within = refl
 open-there phase.Over within = within
 open-there (phase.Lent to_end) within = within
 open-there (phase.Unsettled to_end) within = within
+open-there (phase.Redoing to_end empty) within = within
 open-there phase.Spent within = within
 
 -- and it is this one
@@ -42,6 +43,7 @@ open-is (phase.Open to_end counts) within = refl
 open-is phase.Over within = absurd (false≢true within)
 open-is (phase.Lent to_end) within = absurd (false≢true within)
 open-is (phase.Unsettled to_end) within = absurd (false≢true within)
+open-is (phase.Redoing to_end empty) within = absurd (false≢true within)
 open-is phase.Spent within = absurd (false≢true within)
 
 -- the home in it, with what its workers have done
@@ -52,6 +54,7 @@ in-open e live (phase.Open to_end counts) within = refl
 in-open e live phase.Over within = absurd (false≢true within)
 in-open e live (phase.Lent to_end) within = absurd (false≢true within)
 in-open e live (phase.Unsettled to_end) within = absurd (false≢true within)
+in-open e live (phase.Redoing to_end empty) within = absurd (false≢true within)
 in-open e live phase.Spent within = absurd (false≢true within)
 
 -- ---- a leg is opened
@@ -100,6 +103,7 @@ module _ (e : HomeState) (live : LiveState) where
   home-there phase.Over home there = absurd (false≢true there)
   home-there (phase.Lent to_end) home there = absurd (false≢true there)
   home-there (phase.Unsettled to_end) home there = absurd (false≢true there)
+  home-there (phase.Redoing to_end empty) home there = absurd (false≢true there)
   home-there phase.Spent home there = absurd (false≢true there)
   home-there phase.Resting home there = stand-there _ _ live.dataflow _ home.stands.at
   home-there (phase.Open to_end counts) home there = stand-there _ _ live.dataflow _ home.stands.0.at
@@ -109,6 +113,7 @@ module _ (e : HomeState) (live : LiveState) where
   long-open phase.Over home within = absurd (false≢true within)
   long-open (phase.Lent to_end) home within = absurd (false≢true within)
   long-open (phase.Unsettled to_end) home within = absurd (false≢true within)
+  long-open (phase.Redoing to_end empty) home within = absurd (false≢true within)
   long-open phase.Spent home within = absurd (false≢true within)
   long-open (phase.Open to_end counts) home within = home.stands.0.in_force.all
 
@@ -132,6 +137,7 @@ leg-of e live phase.Resting home within = absurd (false≢true within)
 leg-of e live phase.Over home within = absurd (false≢true within)
 leg-of e live (phase.Lent to_end) home within = absurd (false≢true within)
 leg-of e live (phase.Unsettled to_end) home within = absurd (false≢true within)
+leg-of e live (phase.Redoing to_end empty) home within = absurd (false≢true within)
 leg-of e live phase.Spent home within = absurd (false≢true within)
 leg-of e live (phase.Open to_end counts) home within =
     let leg = home.stands.0 in

@@ -131,6 +131,7 @@ module _ (e : HomeState) (live : LiveState) where
   parts-lent (phase.Open to_end counts) within = refl
   parts-lent (phase.Lent to_end) within = absurd (false≢true within)
   parts-lent (phase.Unsettled to_end) within = absurd (false≢true within)
+  parts-lent (phase.Redoing to_end empty) within = absurd (false≢true within)
   parts-lent phase.Over within = absurd (false≢true within)
   parts-lent phase.Spent within = absurd (false≢true within)
 
@@ -147,6 +148,7 @@ module _ (e : HomeState) (live : LiveState) where
   home-back phase.Resting home away crew lent = absurd (false≢true away)
   home-back (phase.Open to_end counts) home away crew lent = absurd (false≢true away)
   home-back (phase.Unsettled to_end) home away crew lent = absurd (false≢true away)
+  home-back (phase.Redoing to_end empty) home away crew lent = absurd (false≢true away)
   home-back phase.Over home away crew lent = absurd (false≢true away)
   home-back phase.Spent home away crew lent = absurd (false≢true away)
   home-back (phase.Lent to_end) home away crew lent =
@@ -171,6 +173,7 @@ module _ (e : HomeState) (live : LiveState) where
   unsettled-of (phase.Open to_end counts) home apart back = absurd (false≢true (sym apart))
   unsettled-of (phase.Lent to_end) home apart back = absurd (false≢true back)
   unsettled-of (phase.Unsettled to_end) home apart back = home.stands
+  unsettled-of (phase.Redoing to_end empty) home apart back = absurd (false≢true back)
   unsettled-of phase.Over home apart back = absurd (false≢true back)
   unsettled-of phase.Spent home apart back = absurd (false≢true back)
 
@@ -180,6 +183,7 @@ module _ (e : HomeState) (live : LiveState) where
   parts-back (phase.Open to_end counts) apart back = absurd (false≢true (sym apart))
   parts-back (phase.Lent to_end) apart back = absurd (false≢true back)
   parts-back (phase.Unsettled to_end) apart back = refl
+  parts-back (phase.Redoing to_end empty) apart back = absurd (false≢true back)
   parts-back phase.Over apart back = absurd (false≢true back)
   parts-back phase.Spent apart back = absurd (false≢true back)
 
@@ -196,6 +200,7 @@ module _ (e : HomeState) (live : LiveState) where
         by (phase.Open to_end counts) apart back = absurd (false≢true (sym apart))
         by (phase.Lent to_end) apart back = refl
         by (phase.Unsettled to_end) apart back = refl
+        by (phase.Redoing to_end empty) apart back = absurd (false≢true back)
         by phase.Over apart back = absurd (false≢true back)
         by phase.Spent apart back = absurd (false≢true back)
 

@@ -1,7 +1,7 @@
 pub mod Alike
+pub mod AnyAsked
 pub mod Armings
 pub mod AsFar
-pub mod AnyAsked
 pub mod Begun
 pub mod Below
 pub mod Closed
@@ -25,6 +25,7 @@ pub mod Homes
 pub mod InForce
 pub mod Inside
 pub mod Legs
+pub mod JudgedClose
 pub mod LentOut
 pub mod Moved
 pub mod NextStep
@@ -34,7 +35,13 @@ pub mod PauseOver
 pub mod Places
 pub mod Reached
 pub mod Ready
+pub mod Replaced
 pub mod RowsHeld
+pub mod Redone
+pub mod RedoneCalls
+pub mod RedoneCloses
+pub mod RedoneEnds
+pub mod RedoneHomes
 pub mod Saying
 pub mod Steps
 pub mod Stopped

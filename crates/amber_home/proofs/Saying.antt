@@ -42,6 +42,7 @@ unfolding state_of
 stands-somewhere e live phase.Over home there = absurd (false≢true there)
 stands-somewhere e live (phase.Lent to_end) home there = absurd (false≢true there)
 stands-somewhere e live (phase.Unsettled to_end) home there = absurd (false≢true there)
+stands-somewhere e live (phase.Redoing to_end empty) home there = absurd (false≢true there)
 stands-somewhere e live phase.Spent home there = absurd (false≢true there)
 stands-somewhere e live phase.Resting home there =
     let rest = home.stands in
@@ -106,6 +107,7 @@ module _ (e : HomeState) (live : LiveState) where
   stops-open phase.Over home within shown is = absurd (false≢true within)
   stops-open (phase.Lent to_end) home within shown is = absurd (false≢true within)
   stops-open (phase.Unsettled to_end) home within shown is = absurd (false≢true within)
+  stops-open (phase.Redoing to_end empty) home within shown is = absurd (false≢true within)
   stops-open phase.Spent home within shown is = absurd (false≢true within)
   stops-open (phase.Open to_end counts) home within shown is =
       let here : HomeState = record e { phase = phase.Open to_end counts } in
@@ -122,5 +124,6 @@ module _ (e : HomeState) (live : LiveState) where
   stops-rest phase.Over home there rests = absurd (false≢true there)
   stops-rest (phase.Lent to_end) home there rests = absurd (false≢true there)
   stops-rest (phase.Unsettled to_end) home there rests = absurd (false≢true there)
+  stops-rest (phase.Redoing to_end empty) home there rests = absurd (false≢true there)
   stops-rest phase.Spent home there rests = absurd (false≢true there)
   stops-rest (phase.Open to_end counts) home there rests = absurd (false≢true (sym rests))

@@ -23,6 +23,7 @@ module _ (e : HomeState) (live : LiveState) where
   steps-are phase.Over home there = absurd (false≢true there)
   steps-are (phase.Lent to_end) home there = absurd (false≢true there)
   steps-are (phase.Unsettled to_end) home there = absurd (false≢true there)
+  steps-are (phase.Redoing to_end empty) home there = absurd (false≢true there)
   steps-are phase.Spent home there = absurd (false≢true there)
   steps-are phase.Resting home there = sym (steps-rest (record e { phase = phase.Resting }) live home.stands home.legal)
   steps-are (phase.Open to_end counts) home there =
@@ -36,6 +37,7 @@ module _ (e : HomeState) (live : LiveState) where
   steps-few phase.Over home there = absurd (false≢true there)
   steps-few (phase.Lent to_end) home there = absurd (false≢true there)
   steps-few (phase.Unsettled to_end) home there = absurd (false≢true there)
+  steps-few (phase.Redoing to_end empty) home there = absurd (false≢true there)
   steps-few phase.Spent home there = absurd (false≢true there)
   steps-few phase.Resting home there = rest-few (record e { phase = phase.Resting }) live home.stands home.legal
   steps-few (phase.Open to_end counts) home there = home.stands.0.few

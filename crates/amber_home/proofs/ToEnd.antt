@@ -133,6 +133,7 @@ ends-home e live phase.Resting home within last some = absurd (false≢true with
 ends-home e live phase.Over home within last some = absurd (false≢true within)
 ends-home e live (phase.Lent to_end) home within last some = absurd (false≢true within)
 ends-home e live (phase.Unsettled to_end) home within last some = absurd (false≢true within)
+ends-home e live (phase.Redoing to_end empty) home within last some = absurd (false≢true within)
 ends-home e live phase.Spent home within last some = absurd (false≢true within)
 ends-home e live (phase.Open false counts) home within last some = absurd (false≢true last)
 ends-home e live (phase.Open true counts) home within last some =

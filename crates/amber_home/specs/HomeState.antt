@@ -56,6 +56,7 @@ is_spent phase.Resting = false
 is_spent (phase.Open to_end counts) = false
 is_spent (phase.Lent to_end) = false
 is_spent (phase.Unsettled to_end) = false
+is_spent (phase.Redoing to_end empty) = false
 is_spent phase.Over = false
 is_spent phase.Spent = true
 
@@ -65,6 +66,7 @@ has_crew phase.Resting = true
 has_crew (phase.Open to_end counts) = true
 has_crew (phase.Lent to_end) = false
 has_crew (phase.Unsettled to_end) = false
+has_crew (phase.Redoing to_end empty) = false
 has_crew phase.Over = false
 has_crew phase.Spent = false
 
@@ -74,6 +76,7 @@ is_open phase.Resting = false
 is_open (phase.Open to_end counts) = true
 is_open (phase.Lent to_end) = false
 is_open (phase.Unsettled to_end) = false
+is_open (phase.Redoing to_end empty) = false
 is_open phase.Over = false
 is_open phase.Spent = false
 
@@ -83,6 +86,7 @@ is_lent phase.Resting = false
 is_lent (phase.Open to_end counts) = false
 is_lent (phase.Lent to_end) = true
 is_lent (phase.Unsettled to_end) = false
+is_lent (phase.Redoing to_end empty) = false
 is_lent phase.Over = false
 is_lent phase.Spent = false
 
@@ -92,6 +96,7 @@ has_leg_crew phase.Resting = false
 has_leg_crew (phase.Open to_end counts) = true
 has_leg_crew (phase.Lent to_end) = false
 has_leg_crew (phase.Unsettled to_end) = true
+has_leg_crew (phase.Redoing to_end empty) = false
 has_leg_crew phase.Over = false
 has_leg_crew phase.Spent = false
 
@@ -101,6 +106,7 @@ runs_to_end phase.Resting = false
 runs_to_end (phase.Open to_end counts) = to_end
 runs_to_end (phase.Lent to_end) = to_end
 runs_to_end (phase.Unsettled to_end) = to_end
+runs_to_end (phase.Redoing to_end empty) = to_end
 runs_to_end phase.Over = false
 runs_to_end phase.Spent = false
 
@@ -110,6 +116,7 @@ counts_in phase.Resting = Unarmed
 counts_in (phase.Open to_end counts) = counts
 counts_in (phase.Lent to_end) = Armed
 counts_in (phase.Unsettled to_end) = Armed
+counts_in (phase.Redoing to_end empty) = Unarmed
 counts_in phase.Over = Unarmed
 counts_in phase.Spent = Unarmed
 
@@ -133,6 +140,7 @@ state_at phase.Resting e = rest_state e
 state_at (phase.Open to_end counts) e = leg_state e to_end e.parts
 state_at (phase.Lent to_end) e = rest_state e
 state_at (phase.Unsettled to_end) e = leg_state e to_end e.parts
+state_at (phase.Redoing to_end empty) e = leg_state e to_end e.parts
 state_at phase.Over e = rest_state e
 state_at phase.Spent e = rest_state e
 
@@ -149,6 +157,7 @@ stops_at phase.Resting e = kept_stops (query_of e) e.log.items
 stops_at (phase.Open to_end counts) e = stops_in (query_of e) (leg_state e to_end e.parts)
 stops_at (phase.Lent to_end) e = kept_stops (query_of e) e.log.items
 stops_at (phase.Unsettled to_end) e = kept_stops (query_of e) e.log.items
+stops_at (phase.Redoing to_end empty) e = kept_stops (query_of e) e.log.items
 stops_at phase.Over e = kept_stops (query_of e) e.log.items
 stops_at phase.Spent e = kept_stops (query_of e) e.log.items
 

@@ -1,16 +1,20 @@
 -- What a home keeps.
-use Rattle.std.specs.Prelude.{◌≡◌, ℕ, ◌^◌, ◌≤◌, List, [], Option, Bool, false}
-use Rattle.amber_dataflow.specs.AtWork.{AreJoinedAt, steps_by}
+use Rattle.std.specs.Prelude.{◌≡◌, ◌≢◌, ℕ, ◌^◌, ◌<◌, ◌≤◌, List, [], IfSome, None, Option, Bool, false, true}
+use Rattle.amber_dataflow.specs.AtWork.{AreJoinedAt, state_reached, steps_by, worker_state_at}
 use Rattle.amber_dataflow.specs.Dataflow.{DataflowState, HaveDoneNothing, StandAt, step_count}
+use Rattle.amber_dataflow.specs.Parts.{parts_from}
+use Rattle.amber_dataflow.specs.Redoing.{AreRedoneAt}
 use Rattle.amber_lines.specs.KeptStops.{kept_stops}
 use Rattle.amber_log.specs.Grammar.{ends_over}
 use Rattle.amber_meaning.specs.declared.view.Stop.{Stop}
-use Rattle.amber_meaning.specs.Legal.{IsLegal, leg_start}
+use Rattle.amber_meaning.specs.Legal.{IsLegal, IsWorked, leg_start}
 use Rattle.amber_meaning.specs.Position.{Position}
 use Rattle.amber_meaning.specs.State.{position_at}
 use Rattle.amber_worker.specs.WorkerState.{WorkerState}
 use Rattle.amber_home.specs.Asked.{Asked, IsInForce}
-use Rattle.amber_boards.specs.Boards.{AreBelow, AreEmptyHanded, AreUnarmed, AreWithinTargets, CounterState}
+use Rattle.amber_boards.specs.Boards.{AreBelow, AreEmptyHanded, AreUnarmed, AreWithinTargets, CounterState, target_at}
+use Rattle.amber_boards.specs.declared.target.Target.{Target}
+use Rattle.amber_rows.specs.Topology.{crew_of}
 use Rattle.amber_home.specs.HomeState.{HomeState, query_of, rest_state}
 use Rattle.amber_home.specs.Going.{AreReady}
 use Rattle.amber_home.specs.Leg.{counts_asked}
@@ -75,12 +79,32 @@ pub record AreUnsettled (to_end : Bool) (e : HomeState) (live : LiveState) : Typ
   pub workers : AreWithinLeg to_end e live.back
   pub ready : AreReady live.arms live.boards (record { flow = e.flow; workers = live.back })
 
+-- no count asks for more than 2^40 rows
+abbrev pub AreFewTargets : List (Option Target) → Type 0
+AreFewTargets counts = (op : ℕ) → IfSome (target_at counts op) (λ count. count.target ≤ 2 ^ 40)
+
+-- workers that do a leg again lead where the log says, within the steps, in the leg that the home opened. Nobody has a seat, and no hand
+-- holds a unit of those that have no part yet; none does exactly where it is said so
+pub record AreRedoing (to_end empty : Bool) (e : HomeState) (live : LiveState) : Type 0 where
+  pub away : IsAway to_end e live.arms
+  pub positions : ℕ → Position
+  pub stand : AreRedoneAt (record { query = query_of e; start = leg_start to_end (rest_state e); positions = positions }) live.back
+  pub worked : IsWorked (query_of e) (leg_start to_end (rest_state e)) (parts_from 0 live.back) (state_reached (query_of e) (leg_start to_end (rest_state e)) positions)
+  pub few : steps_by live.back ≤ e.most
+  pub seats : (worker : ℕ) → (worker_state_at live.back worker).seat ≡ None
+  pub fresh : (worker : ℕ) → worker < crew_of e.flow → (worker_state_at live.back worker).journal ≡ [] → (positions worker).restraint.hand ≡ 0
+  pub empty_handed : empty ≡ true → (worker : ℕ) → worker < crew_of e.flow → (positions worker).restraint.hand ≡ 0
+  pub full_handed : empty ≡ false → (worker : ℕ) × (worker < crew_of e.flow) × ((positions worker).restraint.hand ≢ 0)
+  pub none : live.boards ≡ []
+  pub targets : AreFewTargets (counts_asked live.arms)
+
 -- at rest and within a leg it stands as the log says; in the other phases nothing is said of it
 abbrev pub StandsIn : Phase → HomeState → LiveState → Type 0
 StandsIn phase.Resting e live = IsAtRest e live
 StandsIn (phase.Open to_end counts) e live = IsWithinLeg to_end e live.dataflow live.arms × CountsStand counts live.arms live.boards live.dataflow
 StandsIn (phase.Lent to_end) e live = IsAway to_end e live.arms
 StandsIn (phase.Unsettled to_end) e live = AreUnsettled to_end e live
+StandsIn (phase.Redoing to_end empty) e live = AreRedoing to_end empty e live
 StandsIn phase.Over e live = Unit {0}
 StandsIn phase.Spent e live = Unit {0}
 

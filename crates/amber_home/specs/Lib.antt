@@ -7,3 +7,4 @@ pub mod Kept
 pub mod Leg
 pub mod Lent
 pub mod Parts
+pub mod Redoing

@@ -14,6 +14,7 @@ open_parts phase.Resting live = []
 open_parts (phase.Open to_end counts) live = leg_parts live.dataflow
 open_parts (phase.Lent to_end) live = []
 open_parts (phase.Unsettled to_end) live = parts_from 0 live.back
+open_parts (phase.Redoing to_end empty) live = parts_from 0 live.back
 open_parts phase.Over live = []
 open_parts phase.Spent live = []
 
@@ -23,5 +24,6 @@ open_turned phase.Resting live = turned_by live.dataflow.workers
 open_turned (phase.Open to_end counts) live = turned_by live.dataflow.workers
 open_turned (phase.Lent to_end) live = []
 open_turned (phase.Unsettled to_end) live = turned_by live.back
+open_turned (phase.Redoing to_end empty) live = turned_by live.back
 open_turned phase.Over live = []
 open_turned phase.Spent live = []

@@ -17,6 +17,8 @@ ghost use Rattle.amber_home.specs.HomeState.{stops_of_home, with_item, with_clos
 
 mod lending;
 mod reading;
+mod redoing;
+mod replacing;
 
 use crate::applying::{condition_for, conditions_for, copies_for, push_command, put_in_force};
 use crate::error::HomeErr;

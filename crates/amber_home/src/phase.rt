@@ -25,6 +25,8 @@ pub enum Phase {
     Lent { to_end: bool },
     /// Within a leg whose workers have come back, with batches that are still on their way from one to another.
     Unsettled { to_end: bool },
+    /// Within a leg of a log that is done again, part by part. Whether every hand is empty so far.
+    Redoing { to_end: bool, empty: bool },
     /// The workers were asked to give their answer away, and are no longer there.
     Over,
     /// Memory ran out inside a leg, and nothing can follow.
@@ -45,7 +47,7 @@ impl Phase {
     {
         match self {
             Phase::Open { to_end, .. } | Phase::Lent { to_end } => to_end,
-            Phase::Unsettled { to_end } => to_end,
+            Phase::Unsettled { to_end } | Phase::Redoing { to_end, .. } => to_end,
             Phase::Resting | Phase::Over | Phase::Spent => false,
         }
     }

@@ -2,9 +2,10 @@
 //! Over `InForce`, which has the counts and the pauses, and what `Dataflow` tells of its workers.
 
 ghost use Rattle.std.specs.Prelude.{◌≡◌, ◌<◌, ◌≤◌, ℕ, false, length, true};
-ghost use Rattle.amber_dataflow.specs.Dataflow.{AreAllThere, is_held, is_paused};
+ghost use Rattle.amber_dataflow.specs.Dataflow.{AreAllThere, is_held, is_paused, rows_emitted};
 ghost use Rattle.amber_rows.specs.Topology.{crew_of};
-ghost use Rattle.amber_home.specs.Leg.{closed_arms, cut_arms, is_stopped};
+ghost use Rattle.amber_home.specs.Leg.{closed_arms, count_at, cut_arms, is_stopped};
+ghost use Rattle.amber_home.specs.Redoing.{NoneIsOver, is_over};
 
 use crate::in_force::InForce;
 use amber_dataflow::Dataflow;
@@ -52,6 +53,39 @@ pub(crate) fn any_paused(dataflow: &Dataflow) -> bool
         }
     }
     false
+}
+
+// Whether the count of an operator has counted more rows than it asks for.
+fn is_over(arms: &InForce, dataflow: &Dataflow, op: u32) -> bool
+    requires workers { AreAllThere dataflow.now }
+    requires some { 0 < op }
+    requires within { op ≤ length dataflow.now.flow }
+    ensures { result ≡ is_over (count_at arms.now op) (rows_emitted dataflow.now op) }
+{
+    match arms.count_at(op) {
+        None => false,
+        Some(count) => {
+            u128::from(count.target) + u128::from(count.since)
+                < u128::from(dataflow.rows_emitted(op))
+        }
+    }
+}
+
+/// Whether no count has counted more rows than it asks for.
+pub(crate) fn are_within(arms: &InForce, dataflow: &Dataflow) -> bool
+    requires workers { AreAllThere dataflow.now }
+    requires arms { length arms.now ≡ length dataflow.now.flow }
+    ensures none { result ≡ true → NoneIsOver arms.now dataflow.now }
+    ensures some { result ≡ false → (op : ℕ)
+        × (is_over (count_at arms.now op) (rows_emitted dataflow.now op) ≡ true) }
+{
+    let count = dataflow.flow().get().len() as u32;
+    'operators: for before in 0..count {
+        if is_over(arms, dataflow, before + 1) {
+            return false;
+        }
+    }
+    true
 }
 
 // Takes away the pauses and the counts that stand.

@@ -30,6 +30,7 @@ arms-of e (phase.Open to_end counts) parts other alone turned within = refl
 arms-of e (phase.Lent to_end) parts other alone turned within = absurd (false≢true within)
 arms-of e (phase.Unsettled to_end) parts other alone turned within = absurd (false≢true within)
 arms-of e phase.Over parts other alone turned within = absurd (false≢true within)
+arms-of e (phase.Redoing to_end empty) parts other alone turned within = absurd (false≢true within)
 arms-of e phase.Spent parts other alone turned within = absurd (false≢true within)
 
 pub arms-same : (old new : HomeState) → is_open old.phase ≡ true → new ≡ record old { parts = new.parts; alone = new.alone; turned = new.turned } → (op : ℕ)

@@ -1,0 +1,29 @@
+//! A worker of a home at rest that takes the place of another. Over `replace` of `amber_dataflow`.
+
+ghost use Rattle.std.specs.Prelude.{None, [], slice_set, ◌<◌, ◌≡◌};
+ghost use Rattle.amber_dataflow.specs.Replacing.{StandsFor};
+ghost use Rattle.amber_meaning.specs.State.{position_at};
+ghost use Rattle.amber_rows.specs.Topology.{crew_of};
+ghost use Rattle.amber_home.specs.HomeState.{query_of, rest_state};
+
+use super::Home;
+use crate::phase::Phase;
+use amber_worker::Worker;
+
+impl Home {
+    /// A worker becomes another one, which shows the same position over links of its own, and has done nothing since. Only
+    /// the ends of its links stay, so the home stands for the same log.
+    pub fn replace(&mut self, worker: u32, made: Worker)
+        requires resting { self.old.phase ≡ Phase.Resting }
+        requires there { worker < crew_of self.old.flow }
+        requires made_rest { made.journal ≡ [] }
+        requires made_unarmed { made.seat ≡ None }
+        requires stands { StandsFor (query_of self.old) (rest_state self.old)
+            (position_at (rest_state self.old).positions) worker made }
+        ensures { self.new ≡ record self.old {
+          turned = slice_set self.old.turned worker made.turned;
+        } }
+    {
+        self.dataflow.replace(worker, made);
+    }
+}
