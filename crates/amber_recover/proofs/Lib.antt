@@ -1,0 +1,9 @@
+pub mod AtRest
+pub mod ItemsDone
+pub mod Judging
+pub mod LegsDone
+pub mod Lengths
+pub mod PartsDone
+pub mod Recovered
+pub mod Told
+pub mod Walked
