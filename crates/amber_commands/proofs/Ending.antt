@@ -13,9 +13,9 @@ use Rattle.amber_course.specs.declared.failure.Failure.TheVariants as failure
 use Rattle.amber_course.specs.declared.status.Status.{Status}
 use Rattle.amber_course.specs.declared.status.Status.TheVariants as status
 use Rattle.amber_course.proofs.Following.{told-all, told-map}
-use Rattle.amber_commands.specs.Answered.{Answered, IsAsked, IsStatusOf, IsWorded, Leads, NamesFile, OutputOnly, Prints, Stops}
+use Rattle.amber_commands.specs.Answered.{AnswersCommands, IsAsked, IsStatusOf, IsWorded, LeadsToScript, NamesFile, OutputOnly, Prints, StopsCommands}
 use Rattle.amber_commands.specs.Course.{asked, script_course, script_for}
-use Rattle.amber_commands.specs.Refusal.{IsToldBy, refusal_line, refusal_status}
+use Rattle.amber_commands.specs.Refusal.{TellsRefusal, refusal_line, refusal_status}
 use Rattle.amber_commands.specs.declared.refusal.Refusal.{Refusal}
 use Rattle.amber_commands.specs.declared.refusal.Refusal.TheVariants as refusal
 
@@ -35,8 +35,8 @@ keeps-got before mid only = subst (λ g. Keeps before.got g) (sym (ap (λ (w : W
 -- ---- before the error line
 
 -- no script was made
-pub stops-led : (r : Refusal) (workflow log : List ℕ) (before mid : World) → Leads {A = List ℕ} (Err r) (script_for workflow log) before mid → LoadsOnly before mid
-    → IsWorded r (workflow ∷ log ∷ []) × Stops r (workflow ∷ log ∷ []) before mid
+pub stops-led : (r : Refusal) (workflow log : List ℕ) (before mid : World) → LeadsToScript {A = List ℕ} (Err r) (script_for workflow log) before mid → LoadsOnly before mid
+    → IsWorded r (workflow ∷ log ∷ []) × StopsCommands r (workflow ∷ log ∷ []) before mid
 unfolding script_course
 stops-led (refusal.Call failure.Usage) workflow log before mid h only = absurd h
 stops-led (refusal.Call failure.OutFault) workflow log before mid h only = absurd h
@@ -45,7 +45,7 @@ stops-led (refusal.Call other) workflow log before mid h only = (refl, (only, h)
 stops-led (refusal.Log line why) workflow log before mid h only = (refl, h)
 
 -- a script was made, and put whole
-pub prints-sent : (text workflow log : List ℕ) (before mid after : World) → Leads (Ok text) (script_for workflow log) before mid → Sent {A = Unit {0}} (Ok tt) text mid after
+pub prints-sent : (text workflow log : List ℕ) (before mid after : World) → LeadsToScript (Ok text) (script_for workflow log) before mid → Sent {A = Unit {0}} (Ok tt) text mid after
     → PutsOnly mid after → Prints (workflow ∷ log ∷ []) before after
 unfolding script_course
 prints-sent text workflow log before mid after led sent only =
@@ -58,8 +58,8 @@ prints-sent text workflow log before mid after led sent only =
     )
 
 -- a script was made, and not put
-pub stops-sent : (s : Failure) (text workflow log : List ℕ) (before mid after : World) → Leads (Ok text) (script_for workflow log) before mid → Sent {A = Unit {0}} (Err s) text mid after
-    → PutsOnly mid after → IsWorded (refusal.Call s) (workflow ∷ log ∷ []) × Stops (refusal.Call s) (workflow ∷ log ∷ []) before after
+pub stops-sent : (s : Failure) (text workflow log : List ℕ) (before mid after : World) → LeadsToScript (Ok text) (script_for workflow log) before mid → Sent {A = Unit {0}} (Err s) text mid after
+    → PutsOnly mid after → IsWorded (refusal.Call s) (workflow ∷ log ∷ []) × StopsCommands (refusal.Call s) (workflow ∷ log ∷ []) before after
 unfolding script_course
 stops-sent failure.OutFault text workflow log before mid after led sent only =
     let same = led.0 in (
@@ -148,7 +148,7 @@ refused-course r words result before after meant is =
     (λ files e. status-of-refused (script_course words files) r result before after e is) meant
 
 -- the course decides the status of a call that was refused
-course-refused : (r : Refusal) (words : List (List ℕ)) (result : Status) (before mid after : World) → Stops r words before mid → PutsOnly mid after → mid.puts ≤ after.puts
+course-refused : (r : Refusal) (words : List (List ℕ)) (result : Status) (before mid after : World) → StopsCommands r words before mid → PutsOnly mid after → mid.puts ≤ after.puts
     → (result ≡ refusal_status r) ⊎ (result ≡ status.NoMemory) → Told before.files (λ files. IsStatusOf (script_course words files) result before after)
 course-refused (refusal.Call failure.Usage) words result before mid after h only le is =
     told-all before.files (λ files. IsStatusOf (script_course words files) result before after)
@@ -167,7 +167,7 @@ course-refused (refusal.Call other) words result before mid after h only le is =
 course-refused (refusal.Log line why) words result before mid after h only le is = refused-course (refusal.Log line why) words result before after h.1 is
 
 -- `Usage` over any files
-usage-is : (r : Refusal) (words : List (List ℕ)) (result : Status) (before mid : World) → Stops r words before mid
+usage-is : (r : Refusal) (words : List (List ℕ)) (result : Status) (before mid : World) → StopsCommands r words before mid
     → (result ≡ refusal_status r) ⊎ (result ≡ status.NoMemory) → result ≡ status.Usage → asked words ≡ None
 usage-is (refusal.Call failure.Usage) words result before mid h is e = h.1
 usage-is r words result before mid h (inr none) e = absurd cc
@@ -187,7 +187,7 @@ words-bad (refusal.Log line why) words result h is none = absurd (none-some (ask
 -- ---- the whole of it
 
 -- a call that printed a script
-pub answered-done : (words : List (List ℕ)) (before after : World) → IsSome (asked words) × Prints words before after → OutputOnly before after → Answered words status.Ok before after
+pub answered-done : (words : List (List ℕ)) (before after : World) → IsSome (asked words) × Prints words before after → OutputOnly before after → AnswersCommands words status.Ok before after
 answered-done words before after (some, h) only = record {
   ok = λ is. h;
   ended = λ failed. absurd (failed refl);
@@ -200,9 +200,9 @@ answered-done words before after (some, h) only = record {
 }
 
 -- a call that was refused
-pub answered-refused : (r : Refusal) (words : List (List ℕ)) (result : Status) (before mid after : World) → IsWorded r words × Stops r words before mid
-    → NamesFile r (IsAsked words) → OutputOnly before mid → Reports result (refusal_line r) (refusal_status r) mid after → IsToldBy r result → PutsOnly mid after
-    → Answered words result before after
+pub answered-refused : (r : Refusal) (words : List (List ℕ)) (result : Status) (before mid after : World) → IsWorded r words × StopsCommands r words before mid
+    → NamesFile r (IsAsked words) → OutputOnly before mid → Reports result (refusal_line r) (refusal_status r) mid after → TellsRefusal r result → PutsOnly mid after
+    → AnswersCommands words result before after
 answered-refused r words result before mid after (worded, left) named only reports told puts =
     let is = refused-as result r mid after reports in
     record {

@@ -6,7 +6,7 @@ use Rattle.amber_course.specs.Steps.{Follows}
 use Rattle.amber_course.specs.declared.failure.Failure.{Failure}
 use Rattle.amber_course.specs.declared.failure.Failure.TheVariants as failure
 use Rattle.amber_course.proofs.Following.{stopped-both, stopped-map, told-all, told-both}
-use Rattle.amber_commands.specs.Answered.{Decides, Leads}
+use Rattle.amber_commands.specs.Answered.{Decides, LeadsToScript}
 use Rattle.amber_commands.specs.Course.{called, go_on}
 use Rattle.amber_commands.specs.declared.refusal.Refusal.{Refusal}
 use Rattle.amber_commands.specs.declared.refusal.Refusal.TheVariants as refusal
@@ -19,14 +19,14 @@ called-ok r x next y e h = rw e h
 
 -- a step stopped, so the whole did
 pub leads-stopped : {A B : Type 0} (s : Failure) (f : Named → Result A Failure) (g : Named → A → Result B Refusal) (before after : World)
-    → Follows {A = A} (Err s) f before after → Leads {A = B} (Err (refusal.Call s)) (λ files. go_on (called (f files)) (g files)) before after
+    → Follows {A = A} (Err s) f before after → LeadsToScript {A = B} (Err (refusal.Call s)) (λ files. go_on (called (f files)) (g files)) before after
 leads-stopped s f g before after h =
     stopped-map s (λ files. f files ≡ Err s) (λ files. go_on (called (f files)) (g files) ≡ Err (refusal.Call s)) before after
     (λ files e. called-err (f files) s (g files) e) h
 
 -- a step went on
 leads-then : {A B : Type 0} (r : Result B Refusal) (x : A) (f : Named → Result A Failure) (g : Named → A → Result B Refusal) (before after : World)
-    → Told before.files (λ files. f files ≡ Ok x) → Leads r (λ files. g files x) before after → Leads r (λ files. go_on (called (f files)) (g files)) before after
+    → Told before.files (λ files. f files ≡ Ok x) → LeadsToScript r (λ files. g files x) before after → LeadsToScript r (λ files. go_on (called (f files)) (g files)) before after
 leads-then (Ok y) x f g before after p q = (
   q.0,
   told-both before.files (λ files. f files ≡ Ok x) (λ files. g files x ≡ Ok y) (λ files. go_on (called (f files)) (g files) ≡ Ok y)
@@ -42,11 +42,11 @@ leads-then (Err (refusal.Log line why)) x f g before after p q = (
 )
 
 pub leads-on : {A B : Type 0} (r : Result B Refusal) (x : A) (f : Named → Result A Failure) (g : Named → A → Result B Refusal) (before mid after : World)
-    → Follows (Ok x) f before mid → Leads r (λ files. g files x) mid after → Leads r (λ files. go_on (called (f files)) (g files)) before after
-leads-on r x f g before mid after p q = leads-then r x f g before after p.1 (subst (λ w. Leads r (λ files. g files x) w after) p.0 q)
+    → Follows (Ok x) f before mid → LeadsToScript r (λ files. g files x) mid after → LeadsToScript r (λ files. go_on (called (f files)) (g files)) before after
+leads-on r x f g before mid after p q = leads-then r x f g before after p.1 (subst (λ w. LeadsToScript r (λ files. g files x) w after) p.0 q)
 
 -- a step that reads nothing
-pub leads-decided : {A : Type 0} (r meant : Result A Refusal) (world : World) → Decides r meant → Leads r (λ files. meant) world world
+pub leads-decided : {A : Type 0} (r meant : Result A Refusal) (world : World) → Decides r meant → LeadsToScript r (λ files. meant) world world
 leads-decided (Ok x) meant world h = (refl, told-all world.files (λ files. meant ≡ Ok x) (λ files. h))
 leads-decided (Err (refusal.Call failure.NoMemory)) meant world h = tt
 leads-decided (Err (refusal.Call other)) meant world h = absurd h

@@ -11,17 +11,17 @@ use Rattle.amber_course.specs.declared.failure.Failure.TheVariants as failure
 use Rattle.amber_course.specs.declared.status.Status.{Status}
 use Rattle.amber_course.specs.declared.status.Status.TheVariants as status
 use Rattle.amber_commands.specs.Course.{asked, script_course}
-use Rattle.amber_commands.specs.Refusal.{IsToldBy, refusal_line, refusal_status}
+use Rattle.amber_commands.specs.Refusal.{TellsRefusal, refusal_line, refusal_status}
 use Rattle.amber_commands.specs.declared.refusal.Refusal.{Refusal}
 use Rattle.amber_commands.specs.declared.refusal.Refusal.TheVariants as refusal
 
 -- ---- steps
 
 -- a step that reads answers as `meant` says over told files, and where it does not stop, all is as before
-abbrev pub Leads : {A : Type 0} → Result A Refusal → (Named → Result A Refusal) → World → World → Type 0
-Leads (Ok x) meant before after = (after ≡ before) × Told before.files (λ files. meant files ≡ Ok x)
-Leads (Err (refusal.Call failure)) meant before after = Stopped failure (λ files. meant files ≡ Err (refusal.Call failure)) before after
-Leads (Err (refusal.Log line why)) meant before after =
+abbrev pub LeadsToScript : {A : Type 0} → Result A Refusal → (Named → Result A Refusal) → World → World → Type 0
+LeadsToScript (Ok x) meant before after = (after ≡ before) × Told before.files (λ files. meant files ≡ Ok x)
+LeadsToScript (Err (refusal.Call failure)) meant before after = Stopped failure (λ files. meant files ≡ Err (refusal.Call failure)) before after
+LeadsToScript (Err (refusal.Log line why)) meant before after =
     (after ≡ before) × Told before.files (λ files. meant files ≡ Err (refusal.Log line why))
 
 -- a step that reads nothing answers what is meant, unless memory runs out
@@ -53,13 +53,13 @@ PrintsPart words before after = (before.puts ≤ after.puts) × Rose before.puts
     × Told before.files (λ files. (text : List ℕ) × (script_course words files ≡ Ok text) × Begins before.got after.got text)
 
 -- why a call stopped, and what it has left: nothing was put unless the sink failed
-abbrev pub Stops : Refusal → List (List ℕ) → World → World → Type 0
-Stops (refusal.Call failure.Usage) words before after = (after ≡ before) × (asked words ≡ None)
-Stops (refusal.Call failure.OutFault) words before after = (after.loads ≡ before.loads) × PrintsPart words before after
-Stops (refusal.Call failure.NoMemory) words before after = (after.puts ≡ before.puts) × Keeps before.got after.got
-Stops (refusal.Call other) words before after =
+abbrev pub StopsCommands : Refusal → List (List ℕ) → World → World → Type 0
+StopsCommands (refusal.Call failure.Usage) words before after = (after ≡ before) × (asked words ≡ None)
+StopsCommands (refusal.Call failure.OutFault) words before after = (after.loads ≡ before.loads) × PrintsPart words before after
+StopsCommands (refusal.Call failure.NoMemory) words before after = (after.puts ≡ before.puts) × Keeps before.got after.got
+StopsCommands (refusal.Call other) words before after =
     LoadsOnly before after × Stopped other (λ files. script_course words files ≡ Err (refusal.Call other)) before after
-Stops (refusal.Log line why) words before after =
+StopsCommands (refusal.Log line why) words before after =
     (after ≡ before) × Told before.files (λ files. script_course words files ≡ Err (refusal.Log line why))
 
 -- the words are refused where they ask for nothing, and only there
@@ -69,7 +69,7 @@ IsWorded other words = IsSome (asked words)
 
 abbrev pub Prepares : {A : Type 0} → Result A Refusal → List (List ℕ) → World → World → Type 0
 Prepares (Ok x) words before after = IsSome (asked words) × Prints words before after
-Prepares (Err refused) words before after = IsWorded refused words × Stops refused words before after
+Prepares (Err refused) words before after = IsWorded refused words × StopsCommands refused words before after
 
 -- ---- the whole of it
 
@@ -79,12 +79,12 @@ IsAsked (workflow ∷ log ∷ []) file = (file ≡ workflow) ⊎ (file ≡ log)
 IsAsked others file = ⊥
 
 -- why a call did not end with `Ok`: what was left before the line of the cause, and the line
-pub record Ended (words : List (List ℕ)) (result : Status) (before after : World) : Type 0 where
+pub record EndsCommands (words : List (List ℕ)) (result : Status) (before after : World) : Type 0 where
   pub cause : Refusal
-  pub answer : IsToldBy cause result
+  pub answer : TellsRefusal cause result
   pub named : NamesFile cause (IsAsked words)
   pub world : World
-  pub left : Stops cause words before world
+  pub left : StopsCommands cause words before world
   pub line : Reports result (refusal_line cause) (refusal_status cause) world after
   pub only : PutsOnly world after
 
@@ -98,10 +98,10 @@ IsStatusOf (Err refused) result before after =
     ⊎ ((result ≡ status.ReadFault) × Rose before.loads after.loads)
 
 -- what a call of these words answers, and what it leaves
-pub record Answered (words : List (List ℕ)) (result : Status) (before after : World) : Type 0 where
+pub record AnswersCommands (words : List (List ℕ)) (result : Status) (before after : World) : Type 0 where
   -- the script is put whole where the call ends with `Ok`, and else there is a cause, whose line is put
   pub ok : result ≡ status.Ok → Prints words before after
-  pub ended : result ≢ status.Ok → Ended words result before after
+  pub ended : result ≢ status.Ok → EndsCommands words result before after
   -- which status it is, over files that are told, and `Usage` over any files
   pub course : Told before.files (λ files. IsStatusOf (script_course words files) result before after)
   pub usage : result ≡ status.Usage → asked words ≡ None

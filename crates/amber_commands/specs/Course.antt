@@ -6,10 +6,10 @@ use Rattle.amber_rows.specs.declared.flow.Operator.{Operator}
 use Rattle.amber_log.specs.ReadAs.{read_of}
 use Rattle.amber_log.specs.declared.log.Item.{Item}
 use Rattle.amber_log.specs.declared.log.Log.{Log}
-use Rattle.amber_course.specs.Course.{load_of, words_read, workflow_in}
+use Rattle.amber_course.specs.Course.{load_of, most_log, words_read, workflow_in}
 use Rattle.amber_course.specs.declared.failure.Failure.{Failure}
 use Rattle.amber_commands.specs.Commands.{commands_text, unfit_line}
-use Rattle.amber_commands.specs.declared.refusal.LogWhy.TheVariants as why
+use Rattle.amber_course.specs.declared.failure.LogWhy.TheVariants as why
 use Rattle.amber_commands.specs.declared.refusal.Refusal.{Refusal}
 use Rattle.amber_commands.specs.declared.refusal.Refusal.TheVariants as refusal
 
@@ -25,14 +25,10 @@ called (Err failure) = Err (refusal.Call failure)
 
 -- ---- the log
 
--- how many bytes a log may have
-abbrev pub most_log : ℕ
-most_log = 2 ^ 27
-
 -- the log that was read, or the first line that cannot stand there
-abbrev pub log_read : Result Log ℕ → Result Log Refusal
-log_read (Ok log) = Ok log
-log_read (Err line) = Err (refusal.Log line why.Text)
+abbrev pub log_or_refusal : Result Log ℕ → Result Log Refusal
+log_or_refusal (Ok log) = Ok log
+log_or_refusal (Err line) = Err (refusal.Log line why.Text)
 
 -- the script of these items, unless a line has a command that no script for the workflow may have
 abbrev pub script_unless : List Operator → List Item → Option ℕ → Result (List ℕ) Refusal
@@ -45,17 +41,17 @@ script_of_items flow items = script_unless flow items (unfit_line 2 flow items)
 
 -- the script of the whole items of a log's file
 abbrev pub script_of_log : List Operator → List ℕ → Result (List ℕ) Refusal
-script_of_log flow bytes = go_on (log_read (read_of bytes)) (λ log. script_of_items flow log.items)
+script_of_log flow bytes = go_on (log_or_refusal (read_of bytes)) (λ log. script_of_items flow log.items)
 
 -- ---- the order of work
 
 -- the names of a workflow and of a log
-pub record Asked : Type 0 where
+pub record ScriptTask : Type 0 where
   pub workflow : List ℕ
   pub log : List ℕ
 
 -- two words ask for a script
-abbrev pub asked : List (List ℕ) → Option Asked
+abbrev pub asked : List (List ℕ) → Option ScriptTask
 asked (workflow ∷ log ∷ []) = Some (record { workflow = workflow; log = log })
 asked others = None
 

@@ -1,17 +1,11 @@
 -- The status and the error line of a call that prints no script.
 use Rattle.std.specs.Prelude.{◌≡◌, ◌⊎◌, ℕ, List, ◌++◌, codes}
 use Rattle.std.specs.Fmt.{decimal}
-use Rattle.amber_course.specs.Failure.{IsToldAs, error_line_of, status_of}
+use Rattle.amber_course.specs.Failure.{IsToldAs, error_line_of, log_reason_word, status_of}
 use Rattle.amber_course.specs.declared.status.Status.{Status}
 use Rattle.amber_course.specs.declared.status.Status.TheVariants as status
-use Rattle.amber_commands.specs.declared.refusal.LogWhy.{LogWhy}
-use Rattle.amber_commands.specs.declared.refusal.LogWhy.TheVariants as why
 use Rattle.amber_commands.specs.declared.refusal.Refusal.{Refusal}
 use Rattle.amber_commands.specs.declared.refusal.Refusal.TheVariants as refusal
-
-abbrev pub log_reason_word : LogWhy → List ℕ
-log_reason_word why.Text = codes "Text"
-log_reason_word why.Illegal = codes "Illegal"
 
 abbrev pub refusal_status : Refusal → Status
 refusal_status (refusal.Call failure) = status_of failure
@@ -22,6 +16,6 @@ refusal_line (refusal.Call failure) = error_line_of failure
 refusal_line (refusal.Log line why) = codes "error 7 log " ++ (decimal line ++ (codes " " ++ (log_reason_word why ++ codes "\n")))
 
 -- the status that tells a refusal. Running out of memory may stand in for any, but not for a sink that failed
-abbrev pub IsToldBy : Refusal → Status → Type 0
-IsToldBy (refusal.Call failure) result = IsToldAs failure result
-IsToldBy (refusal.Log line why) result = (result ≡ status.BadLog) ⊎ (result ≡ status.NoMemory)
+abbrev pub TellsRefusal : Refusal → Status → Type 0
+TellsRefusal (refusal.Call failure) result = IsToldAs failure result
+TellsRefusal (refusal.Log line why) result = (result ≡ status.BadLog) ⊎ (result ≡ status.NoMemory)

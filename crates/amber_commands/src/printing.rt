@@ -3,7 +3,7 @@
 
 ghost use Rattle.std.specs.Prelude.{◌≡◌, ◌⊎◌, [], ◌∷◌, map, string_bytes, IfErr};
 ghost use Rattle.amber_io.specs.World.{LoadsOnly};
-ghost use Rattle.amber_commands.specs.Answered.{Answered, IsAsked, Leads, NamesFile, OutputOnly, Prepares};
+ghost use Rattle.amber_commands.specs.Answered.{AnswersCommands, IsAsked, LeadsToScript, NamesFile, OutputOnly, Prepares};
 ghost use Rattle.amber_commands.specs.Course.{script_for};
 
 use crate::refusal::{Refusal, report};
@@ -23,7 +23,7 @@ fn load_script<W: Outside>(
     log: &str,
     outside: &mut W,
 ) -> Result<Bytes, Refusal>
-    ensures course { Leads result (script_for workflow.now log.now) (W.world outside.old)
+    ensures course { LeadsToScript result (script_for workflow.now log.now) (W.world outside.old)
         (W.world outside.new) }
     ensures named { IfErr result (λ refused. NamesFile refused
         (λ file. (file ≡ workflow.now) ⊎ (file ≡ log.now))) }
@@ -79,7 +79,7 @@ fn print<W: Outside>(alloc: Global, words: &[String], outside: &mut W) -> Result
 ///
 /// `NoMemory` may come at any point, and may then stand in for any other refusal but `OutFault`.
 pub fn print_commands<W: Outside>(alloc: Global, words: &[String], outside: &mut W) -> Status
-    ensures { Answered (map string_bytes words.now) result (W.world outside.old)
+    ensures { AnswersCommands (map string_bytes words.now) result (W.world outside.old)
         (W.world outside.new) }
 {
     match print(alloc, words, outside) {

@@ -4,23 +4,14 @@
 ghost use Rattle.std.specs.Prelude.{◌≡◌};
 ghost use Rattle.amber_io.specs.World.{PutsOnly};
 ghost use Rattle.amber_course.specs.Told.{Reports};
-ghost use Rattle.amber_commands.specs.Refusal.{IsToldBy, log_reason_word, refusal_line, refusal_status};
+ghost use Rattle.amber_commands.specs.Refusal.{TellsRefusal, refusal_line, refusal_status};
 ghost use Rattle.amber_commands.specs.declared.refusal.Refusal.TheVariants.{Call};
 ghost use Rattle.amber_course.specs.declared.failure.Failure.TheVariants as failure;
 ghost use Rattle.amber_course.specs.declared.status.Status.TheVariants as status;
 
-use amber_course::{Failure, Status, put_reason_line, refuse};
+use amber_course::{Failure, LogWhy, Status, put_reason_line, refuse};
 use amber_io::{IoErr, Outside};
 use std::alloc::AllocError;
-
-/// Why a log is refused.
-#[derive(Clone, Copy)]
-pub enum LogWhy {
-    /// The line is none that may stand there in a log.
-    Text,
-    /// The line has a command that no script for the workflow may have.
-    Illegal,
-}
 
 /// Why a call prints no script.
 #[derive(Drop)]
@@ -47,23 +38,11 @@ impl From<AllocError> for Refusal {
     }
 }
 
-impl LogWhy {
-    // The word for the reason in an error line.
-    fn word(self) -> &'static str
-        ensures { result.now ≡ log_reason_word self }
-    {
-        match self {
-            LogWhy::Text => "Text",
-            LogWhy::Illegal => "Illegal",
-        }
-    }
-}
-
 // Prints the line of a log's refusal and answers the status. It takes no memory.
 fn refuse_log<W: Outside>(outside: &mut W, line: u64, why: LogWhy) -> Status
     ensures reports { Reports result (refusal_line (Refusal.Log line why)) status.BadLog
         (W.world outside.old) (W.world outside.new) }
-    ensures told { IsToldBy (Refusal.Log line why) result }
+    ensures told { TellsRefusal (Refusal.Log line why) result }
     ensures only { PutsOnly (W.world outside.old) (W.world outside.new) }
 {
     match put_reason_line(outside, b"error 7 log ", line, why.word()) {
@@ -78,7 +57,7 @@ fn refuse_log<W: Outside>(outside: &mut W, line: u64, why: LogWhy) -> Status
 pub fn report<W: Outside>(outside: &mut W, refusal: &Refusal) -> Status
     ensures reports { Reports result (refusal_line refusal.now) (refusal_status refusal.now)
         (W.world outside.old) (W.world outside.new) }
-    ensures told { IsToldBy refusal.now result }
+    ensures told { TellsRefusal refusal.now result }
     ensures only { PutsOnly (W.world outside.old) (W.world outside.new) }
 {
     match refusal {

@@ -7,11 +7,12 @@ ghost use Rattle.amber_log.specs.ReadAs.{read_of};
 ghost use Rattle.amber_report.specs.Scripts.{script_line};
 ghost use Rattle.amber_commands.specs.Answered.{Decides};
 ghost use Rattle.amber_commands.specs.Commands.{commands_in, commands_text};
-ghost use Rattle.amber_commands.specs.Course.{log_read, most_log, script_of_items, script_of_log};
+ghost use Rattle.amber_course.specs.Course.{most_log};
+ghost use Rattle.amber_commands.specs.Course.{log_or_refusal, script_of_items, script_of_log};
 
 use crate::fitting::unfit_line;
-use crate::refusal::{LogWhy, Refusal};
-use amber_course::Failure;
+use crate::refusal::Refusal;
+use amber_course::{Failure, LogWhy};
 use amber_journal::{LogErr, read_log};
 use amber_log::{Command, Item, Log};
 use amber_report::push_script_line;
@@ -44,7 +45,7 @@ fn commands_text(alloc: Global, flow: &Flow, items: &[Item]) -> Result<Bytes, Al
 
 // The log in a file, of which each line is a byte long at least.
 fn read(alloc: Global, bytes: &Bytes) -> Result<Log, Refusal>
-    ensures read { Decides result (log_read (read_of bytes.now)) }
+    ensures read { Decides result (log_or_refusal (read_of bytes.now)) }
     ensures few { IfOk result
         (λ log. length (flat_map item_lines log.items) ≤ length bytes.now) }
 {

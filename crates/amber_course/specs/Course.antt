@@ -9,17 +9,24 @@ use Rattle.amber_rows.specs.declared.flow.What.TheVariants as what
 use Rattle.amber_rows.specs.declared.flow.Operator.{Operator}
 use Rattle.amber_flow.specs.Workflow.{workflow_of}
 use Rattle.amber_flow.specs.declared.error.Fault.{Fault}
+use Rattle.amber_log.specs.ReadAs.{read_of}
 use Rattle.amber_log.specs.declared.command.Command.{Command}
+use Rattle.amber_log.specs.declared.log.Log.{Log}
+use Rattle.amber_lines.specs.Lines.{illegal_line}
+use Rattle.amber_meaning.specs.Legal.{query_over}
 use Rattle.amber_meaning.specs.Plain.{row_total}
 use Rattle.amber_script.specs.Script.{BadLine, script_of}
 use Rattle.amber_course.specs.Loaded.{Loaded}
 use Rattle.amber_course.specs.Words.{call_words_of}
 use Rattle.amber_course.specs.declared.job.Job.{Job}
 use Rattle.amber_course.specs.declared.job.Job.TheVariants as job
+use Rattle.amber_course.specs.declared.job.ReplayJob.{ReplayJob}
 use Rattle.amber_course.specs.declared.job.RunJob.{RunJob}
+use Rattle.amber_course.specs.declared.words.ReplayWords.{ReplayWords}
 use Rattle.amber_course.specs.declared.words.RunWords.{RunWords}
 use Rattle.amber_course.specs.declared.words.Words.{Words}
 use Rattle.amber_course.specs.declared.words.Words.TheVariants as form
+use Rattle.amber_course.specs.declared.failure.LogWhy.TheVariants as why
 use Rattle.amber_course.specs.declared.failure.Reason.TheVariants as reason
 use Rattle.amber_course.specs.declared.failure.Failure.{Failure}
 use Rattle.amber_course.specs.declared.failure.Failure.TheVariants as failure
@@ -42,6 +49,14 @@ most_scanned = 2 ^ 25
 -- how many rows all operators of a query may give together
 abbrev pub most_rows : ℕ
 most_rows = 2 ^ 40
+
+-- how many bytes a log may have that is read
+abbrev pub most_log : ℕ
+most_log = 2 ^ 27
+
+-- how many steps a run may make
+abbrev pub most_run_steps : ℕ
+most_run_steps = 2 ^ 40
 
 -- ---- files
 
@@ -92,6 +107,15 @@ apart_from flow (Some op) = Err (failure.BadFlow op reason.LogName)
 -- the workflow of a run, whose scans do not read the log
 unfoldable pub run_flow : List ℕ → List ℕ → Named → Result (List Operator) Failure
 run_flow workflow log files = then_on (workflow_in workflow files) (λ flow. apart_from flow (log_scan 1 log flow))
+
+-- the log that was read, or the first line that cannot stand there
+abbrev pub log_or_line : Result Log ℕ → Result Log Failure
+log_or_line (Ok log) = Ok log
+log_or_line (Err line) = Err (failure.BadLog line why.Text)
+
+-- the log that the whole items of the file of this name are
+unfoldable pub log_in : List ℕ → Named → Result Log Failure
+log_in name files = then_on (load_of most_log name files) (λ bytes. log_or_line (read_of bytes))
 
 -- ---- scans
 
@@ -146,12 +170,25 @@ job_of (form.Run words) files =
     then_on (run_flow words.workflow words.log files)
     (λ flow. then_on (script_in words.script flow files) (λ commands. then_on (loaded_for flow files) (λ inputs. Ok (job.Run (run_of words commands inputs)))))
 
--- the operators of a query that is printed at once give no more rows than they may
+job_of (form.Replay words) files =
+    then_on (run_flow words.workflow words.log files)
+    (λ flow. then_on (loaded_for flow files) (λ inputs. then_on (log_in words.log files) (λ log. Ok (job.Replay (record { inputs = inputs; log = log })))))
+
+-- the illegal line of a log, which a run over these files is to have written
+abbrev pub illegal_line_in : ReplayJob → Option ℕ
+illegal_line_in r = illegal_line (query_over r.inputs.flow r.inputs.files r.log.batch most_run_steps) r.log
+
+abbrev pub legal_or : ReplayJob → Option ℕ → Result Job Failure
+legal_or r None = Ok (job.Replay r)
+legal_or r (Some line) = Err (failure.BadLog line why.Illegal)
+
+-- the operators of a query that is printed at once give no more rows than they may, and a log that is replayed is legal
 abbrev pub require_limit : Job → Result Job Failure
 require_limit (job.Plain inputs) = if nat_le (row_total inputs.flow inputs.files) most_rows then Ok (job.Plain inputs) else Err failure.Long
 require_limit (job.Run run) = Ok (job.Run run)
+require_limit (job.Replay r) = legal_or r (illegal_line_in r)
 
--- the words are read; the files are loaded and read; for `plain` the rows of all operators are counted
+-- the words are read; the files are loaded and read; for `plain` the rows of all operators are counted, and for `replay` the log is judged
 unfoldable pub course_of : List (List ℕ) → Named → Result Job Failure
 course_of words files = then_on (words_read (call_words_of words)) (λ read. then_on (job_of read files) require_limit)
 
@@ -175,9 +212,15 @@ abbrev pub IsRunFile : RunWords → Named → List ℕ → Type 0
 IsRunFile words files file = (flow : List Operator) × (run_flow words.workflow words.log files ≡ Ok flow)
     × ((file ≡ words.script) ⊎ (IsOk (script_in words.script flow files) × IsScanFile flow files file))
 
+-- the file of a scan of the workflow, where it is right, and the log, where all scans' files are right too
+abbrev pub IsReplayFile : ReplayWords → Named → List ℕ → Type 0
+IsReplayFile words files file = (flow : List Operator) × (run_flow words.workflow words.log files ≡ Ok flow)
+    × (IsScanFile flow files file ⊎ (IsOk (loaded_for flow files) × (file ≡ words.log)))
+
 abbrev pub IsLoaded : Words → Named → List ℕ → Type 0
 IsLoaded (form.Plain workflow) files file = (file ≡ workflow) ⊎ IsScanned workflow files file
 IsLoaded (form.Run words) files file = (file ≡ words.workflow) ⊎ IsRunFile words files file
+IsLoaded (form.Replay words) files file = (file ≡ words.workflow) ⊎ IsReplayFile words files file
 
 -- a file that the order of work reaches: what comes before it is there and right
 abbrev pub IsReached : List (List ℕ) → Named → List ℕ → Type 0

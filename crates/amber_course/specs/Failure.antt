@@ -5,6 +5,8 @@ use Rattle.amber_flow.specs.Words.{flow_reason_word}
 use Rattle.amber_script.specs.Reasons.{script_reason_word}
 use Rattle.amber_course.specs.declared.status.Status.{Status}
 use Rattle.amber_course.specs.declared.status.Status.TheVariants as status
+use Rattle.amber_course.specs.declared.failure.LogWhy.{LogWhy}
+use Rattle.amber_course.specs.declared.failure.LogWhy.TheVariants as why
 use Rattle.amber_course.specs.declared.failure.Reason.{Reason}
 use Rattle.amber_course.specs.declared.failure.Reason.TheVariants as reason
 use Rattle.amber_course.specs.declared.failure.Failure.{Failure}
@@ -17,6 +19,7 @@ status_of (failure.BadScript line why) = status.BadScript
 status_of (failure.ReadFault name) = status.ReadFault
 status_of failure.LogFault = status.LogFault
 status_of failure.OutFault = status.OutFault
+status_of (failure.BadLog line why) = status.BadLog
 status_of failure.Long = status.Long
 status_of (failure.TooLarge name) = status.TooLarge
 status_of failure.NoMemory = status.NoMemory
@@ -33,6 +36,10 @@ reason_word (reason.Flow why) = flow_reason_word why
 reason_word reason.Header = codes "Header"
 reason_word reason.LogName = codes "LogName"
 
+abbrev pub log_reason_word : LogWhy → List ℕ
+log_reason_word why.Text = codes "Text"
+log_reason_word why.Illegal = codes "Illegal"
+
 -- the line that is printed after a refusal; a sink that failed gets none
 abbrev pub error_line_of : Failure → List ℕ
 error_line_of failure.Usage = codes "error 1 usage\n"
@@ -41,6 +48,7 @@ error_line_of (failure.BadScript line why) = codes "error 3 script " ++ (decimal
 error_line_of (failure.ReadFault name) = codes "error 4 read " ++ (name ++ codes "\n")
 error_line_of failure.LogFault = codes "error 5 log write\n"
 error_line_of failure.OutFault = []
+error_line_of (failure.BadLog line why) = codes "error 7 log " ++ (decimal line ++ (codes " " ++ (log_reason_word why ++ codes "\n")))
 error_line_of failure.Long = codes "error 8 long\n"
 error_line_of (failure.TooLarge name) = codes "error 9 large " ++ (name ++ codes "\n")
 error_line_of failure.NoMemory = codes "error 10 memory\n"

@@ -26,9 +26,15 @@ run_words workflow script log (Some threads) (Some batch_size) =
     if bytes_eq log workflow || bytes_eq log script then None
     else Some (form.Run (record { workflow = workflow; script = script; log = log; threads = threads; batch_size = batch_size }))
 
--- the words are `plain` and the name of a workflow, or `run` and the names of a workflow, a script and a log and two numbers
+-- the words of a replay, whose log is not its workflow
+abbrev pub replay_words : List ℕ → List ℕ → Option Words
+replay_words workflow log = if bytes_eq log workflow then None else Some (form.Replay (record { workflow = workflow; log = log }))
+
+-- the words are `plain` and the name of a workflow, `replay` and the names of a workflow and a log, or `run` and the names of a workflow, a
+-- script and a log and two numbers
 unfoldable pub call_words_of : List (List ℕ) → Option Words
 call_words_of (word ∷ workflow ∷ []) = if bytes_eq word (codes "plain") then Some (form.Plain workflow) else None
+call_words_of (word ∷ workflow ∷ log ∷ []) = if bytes_eq word (codes "replay") then replay_words workflow log else None
 call_words_of (word ∷ workflow ∷ script ∷ log ∷ threads ∷ batch_size ∷ []) =
     if bytes_eq word (codes "run") then run_words workflow script log (number_up_to most_threads threads) (number_up_to most_batch batch_size) else None
 call_words_of others = None
@@ -43,3 +49,4 @@ pub record AreSizes (threads batch_size : ℕ) : Type 0 where
 abbrev pub AreSound : Words → Type 0
 AreSound (form.Plain workflow) = ⊤
 AreSound (form.Run words) = AreSizes words.threads words.batch_size
+AreSound (form.Replay words) = ⊤

@@ -2,7 +2,7 @@
 //! Rests on `FlowWhy`, `ScriptWhy` and `Status`.
 
 ghost use Rattle.std.specs.Prelude.{◌≡◌};
-ghost use Rattle.amber_course.specs.Failure.{reason_word, status_of};
+ghost use Rattle.amber_course.specs.Failure.{log_reason_word, reason_word, status_of};
 ghost use Rattle.amber_course.specs.declared.failure.Failure.TheVariants.{NoMemory};
 
 use crate::status::Status;
@@ -22,6 +22,15 @@ pub enum Reason {
     LogName,
 }
 
+/// Why a log is refused.
+#[derive(Clone, Copy)]
+pub enum LogWhy {
+    /// The line is none that may stand there in a log.
+    Text,
+    /// The line may not stand there in a log of this workflow over these files.
+    Illegal,
+}
+
 /// Why a call ended early, with what its error line says.
 #[derive(Drop)]
 pub enum Failure {
@@ -37,6 +46,8 @@ pub enum Failure {
     LogFault,
     /// The output could not be written.
     OutFault,
+    /// A log that was to be read was refused: the number of a line, from 1, and the reason.
+    BadLog { line: u64, why: LogWhy },
     /// All operators together give more rows than a query may.
     Long,
     /// The file of this name is too large, or passes what the files of all scans may have together.
@@ -57,6 +68,7 @@ impl Failure {
             Failure::ReadFault { .. } => Status::ReadFault,
             Failure::LogFault => Status::LogFault,
             Failure::OutFault => Status::OutFault,
+            Failure::BadLog { .. } => Status::BadLog,
             Failure::Long => Status::Long,
             Failure::TooLarge { .. } => Status::TooLarge,
             Failure::NoMemory => Status::NoMemory,
@@ -77,6 +89,18 @@ impl<T: Drop> From<AllocFailed<T>> for Failure {
 
     fn from(_error: AllocFailed<T>) -> Failure {
         Failure::NoMemory
+    }
+}
+
+impl LogWhy {
+    /// The word for the reason in an error line.
+    pub fn word(self) -> &'static str
+        ensures { result.now ≡ log_reason_word self }
+    {
+        match self {
+            LogWhy::Text => "Text",
+            LogWhy::Illegal => "Illegal",
+        }
     }
 }
 

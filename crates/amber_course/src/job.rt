@@ -1,8 +1,8 @@
 //! The jobs that a call may ask for, with all that was loaded and read for them.
-//! Rests on `Inputs` and on the commands of a script.
+//! Rests on `Inputs`, on the commands of a script and on `Log`.
 
 use crate::inputs::Inputs;
-use amber_log::Commands;
+use amber_log::{Commands, Log};
 use amber_rows::Text;
 
 /// What a run is to do: the workflow over the files of its scans, by the commands of a script, with
@@ -17,6 +17,13 @@ pub struct RunJob {
     pub batch_size: u32,
 }
 
+/// Whose transcript a replay is to print: the workflow over the files of its scans, and a log that is to be judged.
+#[derive(Drop)]
+pub struct ReplayJob {
+    pub inputs: Inputs,
+    pub log: Log,
+}
+
 /// What a call is to do, once nothing is left that refuses it.
 #[derive(Drop)]
 pub enum Job {
@@ -24,4 +31,6 @@ pub enum Job {
     Plain { inputs: Inputs },
     /// To run a workflow by the commands of a script and then to its end.
     Run(RunJob),
+    /// To print the transcript that a log tells.
+    Replay(ReplayJob),
 }

@@ -52,6 +52,11 @@ impl<'a> Line<'a> {
             Failure::ReadFault { name } => Line::unread(name.get()),
             Failure::LogFault => Line::Whole("error 5 log write\n"),
             Failure::OutFault => Line::Nothing,
+            Failure::BadLog { line, why } => Line::Reason {
+                words: "error 7 log ",
+                number: *line,
+                why: why.word(),
+            },
             Failure::Long => Line::Whole("error 8 long\n"),
             Failure::TooLarge { name } => Line::large(name.get()),
             Failure::NoMemory => Line::Whole("error 10 memory\n"),

@@ -1,6 +1,6 @@
 //! From the words of a call to its job: all that the job needs is loaded and read, in the order of
 //! work.
-//! Rests on `load_flow`, `load_run_flow`, `load_script` and `load_scans`.
+//! Rests on `load_flow`, `load_run_flow`, `load_script`, `load_scans` and `load_log`.
 
 ghost use Rattle.std.specs.Prelude.{◌≡◌, IfErr, IfOk};
 ghost use Rattle.amber_io.specs.Folder.{Told};
@@ -11,12 +11,13 @@ ghost use Rattle.amber_course.specs.Steps.{Follows, Names};
 ghost use Rattle.amber_course.specs.Words.{AreSizes, AreSound};
 
 use crate::failure::Failure;
-use crate::job::{Job, RunJob};
+use crate::job::{Job, ReplayJob, RunJob};
 use crate::loading::load_flow;
+use crate::log::load_log;
 use crate::log_name::load_run_flow;
 use crate::scans::load_scans;
 use crate::script::load_script;
-use crate::words::{RunWords, Words};
+use crate::words::{ReplayWords, RunWords, Words};
 use amber_io::Outside;
 use std::alloc::Global;
 
@@ -67,6 +68,28 @@ fn prepare_run<W: Outside>(alloc: Global, words: RunWords, outside: &mut W) -> R
     }))
 }
 
+// To print the transcript that a log tells.
+fn prepare_replay<W: Outside>(
+    alloc: Global,
+    words: ReplayWords,
+    outside: &mut W,
+) -> Result<Job, Failure>
+    ensures course { Follows result (job_of (Words.Replay words)) (W.world outside.old)
+        (W.world outside.new) }
+    ensures ready { IfOk result IsReady }
+    ensures form { IfOk result WritesNothing }
+    ensures named { Told (W.world outside.old).files
+        (λ files. IfErr result (λ failure. Names failure (IsLoaded (Words.Replay words) files))) }
+    ensures only { LoadsOnly (W.world outside.old) (W.world outside.new) }
+    ensures held { W.held outside.new ≡ W.held outside.old }
+{
+    let ReplayWords { workflow, log } = words;
+    let flow = load_run_flow(alloc, workflow.get(), log.get(), outside)?;
+    let inputs = load_scans(alloc, flow, outside)?;
+    let log = load_log(alloc, log.get(), outside)?;
+    Ok(Job::Replay(ReplayJob { inputs, log }))
+}
+
 /// The job that words ask for, with all that is to be loaded and read for it.
 pub fn prepare<W: Outside>(alloc: Global, words: Words, outside: &mut W) -> Result<Job, Failure>
     requires { AreSound words }
@@ -82,5 +105,6 @@ pub fn prepare<W: Outside>(alloc: Global, words: Words, outside: &mut W) -> Resu
     match words {
         Words::Plain { workflow } => prepare_plain(alloc, workflow.get(), outside),
         Words::Run(words) => prepare_run(alloc, words, outside),
+        Words::Replay(words) => prepare_replay(alloc, words, outside),
     }
 }

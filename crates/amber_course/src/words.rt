@@ -4,7 +4,7 @@
 ghost use Rattle.std.specs.Prelude.{◌≡◌, ◌<◌, ◌≤◌, map, string_bytes, IfOk, IfSome, Some};
 ghost use Rattle.amber_course.specs.Steps.{AreRead};
 ghost use Rattle.amber_script.specs.Numbers.{number_up_to};
-ghost use Rattle.amber_course.specs.Words.{AreSizes, AreSound, call_words_of, run_words, sizes_of};
+ghost use Rattle.amber_course.specs.Words.{AreSizes, AreSound, call_words_of, replay_words, run_words, sizes_of};
 
 use crate::failure::Failure;
 use amber_rows::Text;
@@ -28,6 +28,13 @@ pub struct RunWords {
     pub batch_size: u32,
 }
 
+/// The words of a replay: the names of its workflow and of its log.
+#[derive(Drop)]
+pub struct ReplayWords {
+    pub workflow: Text,
+    pub log: Text,
+}
+
 /// What the words of a call ask for.
 #[derive(Drop)]
 pub enum Words {
@@ -35,6 +42,8 @@ pub enum Words {
     Plain { workflow: Text },
     /// To do a run and to write its log.
     Run(RunWords),
+    /// To print the transcript that a log tells.
+    Replay(ReplayWords),
 }
 
 // The words after `plain`.
@@ -96,6 +105,20 @@ fn read_run(
     }))
 }
 
+// The words after `replay`.
+fn read_replay(alloc: Global, workflow: &str, log: &str) -> Result<Words, Failure>
+    ensures read { AreRead result (replay_words workflow.now log.now) }
+    ensures sound { IfOk result AreSound }
+{
+    if log == workflow {
+        return Err(Failure::Usage);
+    }
+    Ok(Words::Replay(ReplayWords {
+        workflow: Text::new(alloc, workflow)?,
+        log: Text::new(alloc, log)?,
+    }))
+}
+
 /// Reads the words after the program's name.
 #[tactic(auto, unfolding(crate::specs::Words::call_words_of))]
 pub fn read_words(alloc: Global, words: &[String]) -> Result<Words, Failure>
@@ -104,6 +127,9 @@ pub fn read_words(alloc: Global, words: &[String]) -> Result<Words, Failure>
 {
     match words {
         [form, workflow] if form.as_str() == "plain" => read_plain(alloc, workflow.as_str()),
+        [form, workflow, log] if form.as_str() == "replay" => {
+            read_replay(alloc, workflow.as_str(), log.as_str())
+        }
         [form, workflow, script, log, threads, batch_size] if form.as_str() == "run" => read_run(
             alloc,
             workflow.as_str(),

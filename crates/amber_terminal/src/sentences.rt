@@ -108,7 +108,7 @@ fn of_line(word: &[u8]) -> Option<&'static str> {
 fn of_log(word: &[u8]) -> Option<&'static str> {
     match word {
         b"Text" => Some("The line is none that may stand there in a log."),
-        b"Illegal" => Some("A script for this workflow cannot have the command in this line."),
+        b"Illegal" => Some("The line may not stand there in a log of this workflow."),
         _ => None,
     }
 }

@@ -1,7 +1,7 @@
 -- The workflow, and then the log.
 use Rattle.std.proofs.Common.{◌≡◌, Err, rules}
-use Rattle.amber_course.specs.Course.{load_of, workflow_in}
-use Rattle.amber_commands.specs.Course.{called, go_on, most_log, script_for, script_of_log}
+use Rattle.amber_course.specs.Course.{load_of, most_log, workflow_in}
+use Rattle.amber_commands.specs.Course.{called, go_on, script_for, script_of_log}
 use Rattle.amber_commands.specs.declared.refusal.Refusal.TheVariants as refusal
 use Rattle.amber_commands.proofs.Leading.{leads-decided, leads-on, leads-stopped}
 use Rattle.amber_commands.proofs.printing.load_script.Goals as goal

@@ -32,9 +32,9 @@ returns-in-len2 c =
 pub returns-in-len6 : goal.returns-in-len6
 unfolding call_words_of
 returns-in-len6 c =
-    let is = six_of c.args.words.now c.form-item-then-words-lt7.result c.workflow-item-then-words-lt7.result c.script-item.result c.log-item.result c.threads-item.result c.batch_size-item.result c.in-len6.len_at_least c.in-len6.len_below
-    c.form-item-then-words-lt7.is c.workflow-item-then-words-lt7.is c.script-item.is c.log-item.is c.threads-item.is c.batch_size-item.is in
+    let is = six_of c.args.words.now c.form-item-then-words-lt7.result c.workflow-item-then-words-lt7.result c.script-item.result c.log-item-then-words-lt7.result c.threads-item.result c.batch_size-item.result c.in-len6.len_at_least c.in-len6.len_below
+    c.form-item-then-words-lt7.is c.workflow-item-then-words-lt7.is c.script-item.is c.log-item-then-words-lt7.is c.threads-item.is c.batch_size-item.is in
     record {
-      read = rw (is, ← c.as_str-then-words-lt7.ensures.value, ← c.if-eq-2.ensures, ← c.as_str-in-len6.ensures.value, ← c.as_str-in-len6-2.ensures.value, ← c.as_str-in-len6-3.ensures.value, ← c.as_str-in-len6-4.ensures.value, ← c.as_str-in-len6-5.ensures.value) c.read_run.ensures.read;
+      read = rw (is, ← c.as_str-then-words-lt7.ensures.value, ← c.if-eq-3.ensures, ← c.as_str-in-len6.ensures.value, ← c.as_str-in-len6-2.ensures.value, ← c.as_str-in-len6-3.ensures.value, ← c.as_str-in-len6-4.ensures.value, ← c.as_str-in-len6-5.ensures.value) c.read_run.ensures.read;
       sound = c.read_run.ensures.sound;
     }
