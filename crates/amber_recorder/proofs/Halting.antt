@@ -25,7 +25,7 @@ use Rattle.amber_debug.specs.Session.{Grew, Session, command_of, is_long_item, o
 use Rattle.amber_course.specs.declared.failure.Failure.{Failure}
 use Rattle.amber_course.specs.declared.failure.Failure.TheVariants as failure
 use Rattle.amber_course.proofs.Lines.{appends-same, keeps-nil}
-use Rattle.amber_recorder.specs.Left.{ClosesAs, HasTorn, IsHalted, IsNext, IsWritten, ends_long, log_with}
+use Rattle.amber_recorder.specs.Left.{ClosesAs, HasTorn, IsHalted, IsNextItem, IsWritten, ends_long, log_with}
 use Rattle.amber_recorder.specs.Recording.{Doing, Performs, reply_to}
 
 -- ---- lists
@@ -67,14 +67,14 @@ appends-none a b e = subst (λ got. Appends a got []) (sym e) (appends-same a)
 -- ---- items
 
 -- a debugger grew by an item for its command
-pub next-item : (old new : Session) (done : Command) (one : Item) → Grew old new done one → IsLegal (query_in new) new.log → IsNext old done one
+pub next-item : (old new : Session) (done : Command) (one : Item) → Grew old new done one → IsLegal (query_in new) new.log → IsNextItem old done one
 next-item old new done one grew legal = record {
   command = grew.command;
   legal = rw (grew.flow, grew.files, grew.most, grew.log) at legal;
   in_time = grew.in_time;
 }
 
-pub items-in-time : (d : Session) (done : Command) (one : Item) → AreInTime (query_in d) most_late (start_of d.flow) d.log.items → IsNext d done one
+pub items-in-time : (d : Session) (done : Command) (one : Item) → AreInTime (query_in d) most_late (start_of d.flow) d.log.items → IsNextItem d done one
     → AreInTime (query_in d) most_late (start_of d.flow) (d.log.items ++ one ∷ [])
 unfolding state_after
 items-in-time d done one h item = AreInTime-push (query_in d) most_late (start_of d.flow) d.log.items one h item.in_time
@@ -120,7 +120,7 @@ halted-log f told d bytes h place same read stands closed = record {
 }
 
 -- the log has an item more, and a part of its reply was put
-halted-item : (f : Failure) (told : Option Named) (d : Doing) (one : Item) (part rest : List ℕ) → IsWritten told d → IsNext d.old d.command one
+halted-item : (f : Failure) (told : Option Named) (d : Doing) (one : Item) (part rest : List ℕ) → IsWritten told d → IsNextItem d.old d.command one
     → d.after.files ≡ with_file told d.name (log_text (one_more d.old.log one)) → part ++ rest ≡ reply_to d.old one
     → (f ≢ failure.OutFault → part ≡ []) → Appends d.before.got d.after.got part → ClosesAs f (is_long_item one) → IsHalted f told d
 unfolding replies
@@ -149,7 +149,7 @@ pub performs-halts : (A : Type 0) (f : Failure) (told : Option Named) (d : Doing
 performs-halts A failure.LogFault told d h (one, (grew, (part, rest, whole, new), same)) legal =
     by-rest rest whole
   where
-    item : IsNext d.old d.command one
+    item : IsNextItem d.old d.command one
     item = next-item d.old d.new d.command one grew legal
 
     place : d.after.files ≡ with_file told d.name (log_text d.old.log ++ part)

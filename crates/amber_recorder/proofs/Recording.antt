@@ -15,7 +15,7 @@ use Rattle.amber_course.specs.declared.failure.Failure.TheVariants as failure
 use Rattle.amber_debug.specs.Session.{Does, Session, command_of, is_long_item}
 use Rattle.amber_debug.specs.declared.done.DebugErr.TheVariants as debug_err
 use Rattle.amber_debug.specs.declared.done.Done.{Done}
-use Rattle.amber_recorder.specs.Recording.{Doing, MakesFile, Performs, Reports}
+use Rattle.amber_recorder.specs.Recording.{Doing, MakesFile, Performs, ReportsItem}
 use Rattle.amber_recorder.specs.Writing.{Made, Wrote}
 
 -- ---- the log's file
@@ -48,14 +48,14 @@ there-written (Err s) name bytes mid now there new = tt
 
 -- the item was not written
 pub reports-none : (s : Failure) (name : List ℕ) (done : Done) (before after : World) → Wrote {A = Unit {0}} (Err s) (record { name = name; bytes = done.item }) before after
-    → after.got ≡ before.got → Reports {A = Unit {0}} (Err s) (record { name = name; done = done }) before after
+    → after.got ≡ before.got → ReportsItem {A = Unit {0}} (Err s) (record { name = name; done = done }) before after
 reports-none failure.LogFault name done before after wrote same = (wrote, same)
 reports-none failure.NoMemory name done before after wrote same = inl (wrote, same)
 reports-none other name done before after wrote same = absurd wrote
 
 -- it was, whatever became of the reply
 pub reports-reply : (r : Result (Unit {0}) Failure) (name : List ℕ) (done : Done) (before mid after : World) → mid.files ≡ with_more before.files name done.item → mid.got ≡ before.got
-    → Sent r done.reply mid after → after.files ≡ mid.files → Reports r (record { name = name; done = done }) before after
+    → Sent r done.reply mid after → after.files ≡ mid.files → ReportsItem r (record { name = name; done = done }) before after
 reports-reply (Ok x) name done before mid after new same sent kept = (kept ∙ new, rw same at sent.1)
 reports-reply (Err failure.OutFault) name done before mid after new same sent kept = (kept ∙ new, rw same at sent.2)
 reports-reply (Err failure.NoMemory) name done before mid after new same sent kept = inr (kept ∙ new, rw same at sent.1)
@@ -65,12 +65,12 @@ reports-reply (Err other) name done before mid after new same sent kept = absurd
 
 -- it was done, and all of it was reported
 pub reported-all : {A B : Type 0} (a : A) (x : B) (d : Doing) (told : Done) → Does (Ok told) d.old d.new d.command
-    → Reports {A = A} (Ok a) (record { name = d.name; done = told }) d.before d.after → Performs {A = B} (Ok x) d
+    → ReportsItem {A = A} (Ok a) (record { name = d.name; done = told }) d.before d.after → Performs {A = B} (Ok x) d
 reported-all a x d told does h = (does.0, (does.1, rw does.3 at h.0), does.2, rw does.4 at h.1)
 
 -- it was done, and that was not reported
 pub reported-none : (A B : Type 0) (f : Failure) (d : Doing) (told : Done) → Does (Ok told) d.old d.new d.command
-    → Reports {A = A} (Err f) (record { name = d.name; done = told }) d.before d.after → Performs {A = B} (Err f) d
+    → ReportsItem {A = A} (Err f) (record { name = d.name; done = told }) d.before d.after → Performs {A = B} (Err f) d
 reported-none A B failure.LogFault d told does h = (does.0, (does.1, rw does.3 at h.0, h.1))
 reported-none A B failure.OutFault d told does h = (does.0, (does.1, rw does.3 at h.0), does.2, rw does.4 at h.1)
 reported-none A B failure.NoMemory d told does (inl h) = inl h

@@ -33,7 +33,7 @@ abbrev pub IsTorn : List ℕ → List ℕ → Type 0
 IsTorn part whole = (rest : List ℕ) × (part ++ rest ≡ whole) × (rest ≢ [])
 
 -- an item by which a debugger's log may grow at a command: with it the log is legal, and it stops in time
-pub record IsNext (d : Session) (done : Command) (one : Item) : Type 0 where
+pub record IsNextItem (d : Session) (done : Command) (one : Item) : Type 0 where
   pub command : command_of one ≡ done
   pub legal : IsLegal (query_in d) (one_more d.log one)
   pub in_time : IsNextInTime d one
@@ -52,7 +52,7 @@ log_with d last = record { batch = d.old.log.batch; items = d.old.log.items ++ l
 -- the file holds the log's text and after it the command's item, torn
 pub record HasTorn (d : Doing) (bytes : List ℕ) : Type 0 where
   pub one : Item
-  pub item : IsNext d.old d.command one
+  pub item : IsNextItem d.old d.command one
   pub torn : List ℕ
   pub front : IsTorn torn (item_text one)
   pub text : bytes ≡ log_text d.old.log ++ torn

@@ -70,13 +70,13 @@ pub record Report : Type 0 where
   pub done : Done
 
 -- the item was appended, and then the reply was put; or where that failed
-abbrev pub Reports : {A : Type 0} → Result A Failure → Report → World → World → Type 0
-Reports (Ok x) r before after = (after.files ≡ with_more before.files r.name r.done.item) × Appends before.got after.got r.done.reply
-Reports (Err failure.LogFault) r before after = Starts before.files after.files r.name r.done.item × (after.got ≡ before.got)
-Reports (Err failure.OutFault) r before after = (after.files ≡ with_more before.files r.name r.done.item) × Begins before.got after.got r.done.reply
-Reports (Err failure.NoMemory) r before after =
+abbrev pub ReportsItem : {A : Type 0} → Result A Failure → Report → World → World → Type 0
+ReportsItem (Ok x) r before after = (after.files ≡ with_more before.files r.name r.done.item) × Appends before.got after.got r.done.reply
+ReportsItem (Err failure.LogFault) r before after = Starts before.files after.files r.name r.done.item × (after.got ≡ before.got)
+ReportsItem (Err failure.OutFault) r before after = (after.files ≡ with_more before.files r.name r.done.item) × Begins before.got after.got r.done.reply
+ReportsItem (Err failure.NoMemory) r before after =
     ((after.files ≡ before.files) × (after.got ≡ before.got)) ⊎ ((after.files ≡ with_more before.files r.name r.done.item) × Keeps before.got after.got)
-Reports (Err other) r before after = ⊥
+ReportsItem (Err other) r before after = ⊥
 
 -- a command was done: its item was written, and then its reply was put; or where it failed
 abbrev pub Performs : {A : Type 0} → Result A Failure → Doing → Type 0

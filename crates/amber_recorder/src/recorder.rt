@@ -12,7 +12,7 @@ ghost use Rattle.amber_meaning.specs.Legal.{IsLegal};
 ghost use Rattle.amber_script.specs.Commands.{is_scripted};
 ghost use Rattle.amber_course.specs.Steps.{Sent};
 ghost use Rattle.amber_debug.specs.Session.{query_in};
-ghost use Rattle.amber_recorder.specs.Recording.{MakesFile, MayFollow, Performs, Reports};
+ghost use Rattle.amber_recorder.specs.Recording.{MakesFile, MayFollow, Performs, ReportsItem};
 ghost use Rattle.amber_recorder.specs.Writing.{Counted, Made, Wrote};
 
 use amber_course::{Failure, put_output};
@@ -154,7 +154,7 @@ impl<'a, R: Threads + Sync, G: Gate + Sync, W: Outside> Recorder<'a, R, G, W> {
     // Writes the item of a command that was done into the log, and then puts its reply.
     fn report(&mut self, done: &Done) -> Result<(), Failure>
         requires there { IsThere (W.world self.old.outside.now).files self.old.log_name.now }
-        ensures reports { Reports result (record { name = self.old.log_name.now; done = done.now })
+        ensures reports { ReportsItem result (record { name = self.old.log_name.now; done = done.now })
             (W.world self.old.outside.now) (W.world self.new.outside.now) }
         ensures there { IfOk result (λ done.
             IsThere (W.world self.new.outside.now).files self.old.log_name.now) }
