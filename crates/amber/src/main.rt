@@ -27,6 +27,9 @@ const HELP: &str = "amber answers queries over CSV files.
                          of the run work side by side: how far each is at a stop may depend on it, but
                          not the answer where the script has no set and no drop. BATCH, the rows of a
                          batch, is 1 to 65536
+  amber replay WORKFLOW LOG
+                         prints what the run or the session printed that has written the file LOG, which
+                         is only read
   amber debug WORKFLOW LOG [THREADS BATCH]
                          a session: reads commands from the standard input, one a line, and answers
                          each before it reads the next; `amber debug --help` tells more
@@ -72,7 +75,7 @@ code, a word for what was refused, and then what it was, as in `error 4 read ord
    4  a file was not there, or it or the input of a session could not be read
    5  the log could not be written
    6  the output could not be written
-   7  the log was refused, of which the commands were to be printed
+   7  the log was refused that was to be replayed, or of which the commands were to be printed
    8  the work went past its limit
    9  a file, or the input of a session, was too large
   10  memory ran out

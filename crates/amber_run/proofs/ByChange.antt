@@ -47,16 +47,20 @@ untouched-from line before world got h p = (h.0, keeps-then before.got world.got
 fulfils-to : (done : Job) (before after : World) → FulfilsBy done (change_between before after) → Fulfils done before after
 fulfils-to (job.Plain inputs) before after h = h
 fulfils-to (job.Run run) before after h = done-to (run_task_of before run) after h
+fulfils-to (job.Replay r) before after h = h
 
 fulfils-from : (done : Job) (before after : World) → Fulfils done before after → FulfilsBy done (change_between before after)
 fulfils-from (job.Plain inputs) before after h = h
 fulfils-from (job.Run run) before after h = done-from (run_task_of before run) after h
+fulfils-from (job.Replay r) before after h = h
 
 breaks_off-to : (done : Job) (s : Failure) (line : List ℕ) (before after : World) → (s ≡ failure.OutFault → line ≡ []) → BreaksOffBy done s line (change_between before after)
     → ThenPuts (IsBrokenOff done s before) line after
 breaks_off-to (job.Plain inputs) failure.OutFault line before after none h = (after, h, subst (λ l. Appends after.got after.got l) (sym (none refl)) (Appends-nil after.got), refl)
 breaks_off-to (job.Plain inputs) other line before after none h = absurd h
 breaks_off-to (job.Run run) s line before after none h = leaves-to (run_task_of before run) s line after h
+breaks_off-to (job.Replay r) failure.OutFault line before after none h = (after, h, subst (λ l. Appends after.got after.got l) (sym (none refl)) (Appends-nil after.got), refl)
+breaks_off-to (job.Replay r) other line before after none h = absurd h
 
 breaks_off-from : (done : Job) (s : Failure) (line : List ℕ) (before world : World) (got : Option (List ℕ)) → (s ≡ failure.OutFault → line ≡ []) → IsBrokenOff done s before world
     → Appends world.got got line → BreaksOffBy done s line (change_to before world got)
@@ -66,6 +70,11 @@ breaks_off-from (job.Plain inputs) failure.OutFault line before world got none h
     (h.0, (part, h.1.1, h.1.2, subst (λ text. Appends before.got got text) whole (Appends-trans before.got world.got got part line h.1.3 p)))
 breaks_off-from (job.Plain inputs) other line before world got none h p = absurd h
 breaks_off-from (job.Run run) s line before world got none h p = leaves-from (run_task_of before run) s line world got h p
+breaks_off-from (job.Replay r) failure.OutFault line before world got none h p =
+    let part = h.1.0 in
+    let whole : part ++ line ≡ part = ap (λ l. part ++ l) (none refl) ∙ append-nil part in
+    (h.0, (part, h.1.1, h.1.2, subst (λ text. Appends before.got got text) whole (Appends-trans before.got world.got got part line h.1.3 p)))
+breaks_off-from (job.Replay r) other line before world got none h p = absurd h
 
 -- ---- what a call leaves
 

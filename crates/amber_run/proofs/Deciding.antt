@@ -40,10 +40,12 @@ told-tells (Some files) P h = h
 open-none : (j : Job) (result : Status) → result ≡ status.NoMemory → IsJobStatus j result
 open-none (job.Plain inputs) result e = rw e tt
 open-none (job.Run run) result e = rw e tt
+open-none (job.Replay r) result e = rw e tt
 
 open-ok : (j : Job) → IsJobStatus j status.Ok
 open-ok (job.Plain inputs) = tt
 open-ok (job.Run run) = tt
+open-ok (job.Replay r) = tt
 
 run-status : (t : RunTask) (s : Failure) (now : World) (result : Status) → Leaves t s now → result ≡ status_of s → IsRunStatus result
 run-status t failure.LogFault now result h e = rw e tt
@@ -58,6 +60,8 @@ open-broken : (j : Job) (s : Failure) (before mid : World) (result : Status) →
 open-broken (job.Plain inputs) failure.OutFault before mid result h e = rw e tt
 open-broken (job.Plain inputs) other before mid result h e = absurd h
 open-broken (job.Run run) s before mid result h e = run-status _ s mid result h e
+open-broken (job.Replay r) failure.OutFault before mid result h e = rw e tt
+open-broken (job.Replay r) other before mid result h e = absurd h
 
 answers-none : (r : Result Job Failure) (result : Status) (a b : ℕ) → result ≡ status.NoMemory → Answers r result a b
 answers-none (Ok j) result a b e = inl (open-none j result e)
@@ -130,6 +134,7 @@ later-rose c d e rose le = omega (arith, rose, le)
 abbrev IsOver : Result Job Failure → Type 0
 IsOver (Ok (job.Plain inputs)) = ⊥
 IsOver (Ok (job.Run run)) = AlterNothing run.commands → most_steps < step_total (query_over run.inputs.flow run.inputs.files run.batch_size most_steps)
+IsOver (Ok (job.Replay r)) = ⊥
 IsOver (Err s) = ⊥
 
 -- memory ran out, the log or the sink failed, or the steps were too many
@@ -151,6 +156,7 @@ with-end script h =
 over-of : (r : Result Job Failure) (j : Job) (before mid : World) → r ≡ Ok j → IsBrokenOff j failure.Long before mid → IsOver r
 over-of r (job.Plain inputs) before mid e h = absurd h
 over-of r (job.Run run) before mid e h = rw e (λ nothing. h.1 (with-end run.commands nothing))
+over-of r (job.Replay one) before mid e h = absurd h
 
 late-long : (words : List (List ℕ)) (before mid : World) (puts : ℕ) (result : Status) → StopsLong words before mid → result ≡ status.Long → MayBeLate words result before mid puts
 late-long words before mid puts result (inl few) is =
@@ -196,6 +202,7 @@ within-ok (Err s) h = absurd h
 within-over : (r : Result Job Failure) → MeetsLimit r → IsOver r → ⊥
 within-over (Ok (job.Plain inputs)) h over = over
 within-over (Ok (job.Run run)) h over = omega (arith, h.1, over h.0)
+within-over (Ok (job.Replay r)) h over = over
 within-over (Err s) h over = over
 
 -- with no count risen, and steps within the limit, only memory can be wanting
@@ -210,6 +217,11 @@ late-none r result before mid puts (inr (inr (inr long))) within kept quiet = ab
 late-sink : (r : Result Job Failure) (result : Status) (before mid : World) (puts : ℕ) → (IsOk r → IsLate r result before mid puts) → ¬ (Rose before.writes mid.writes) → IsSinkStatus r result
 late-sink (Err s) result before mid puts late kept = tt
 late-sink (Ok (job.Plain inputs)) result before mid puts late kept =
+    elim (late refl) [
+      | inl none ↦ inr none
+      | inr rest ↦ elim rest [ inl log ↦ absurd (kept log.1) | inr more ↦ elim more [ inl out ↦ inl out.0 | inr long ↦ absurd long.1 ] ]
+    ]
+late-sink (Ok (job.Replay r)) result before mid puts late kept =
     elim (late refl) [
       | inl none ↦ inr none
       | inr rest ↦ elim rest [ inl log ↦ absurd (kept log.1) | inr more ↦ elim more [ inl out ↦ inl out.0 | inr long ↦ absurd long.1 ] ]

@@ -93,6 +93,14 @@ run-works (Err failure.Long) words read job before after e h (inl done) k = (
 run-works (Err failure.Long) words read job before after e h (inr done) k = (k.0, inr (broken failure.Long words read job before after e h done.0 done.1))
 run-works (Err failure.NoMemory) words read job before after e h (inl done) k = inl done
 run-works (Err failure.NoMemory) words read job before after e h (inr done) k = inr (k.0, broken failure.NoMemory words read job before after e h done.0 done.1)
+run-works (Err (failure.BadLog line why)) words read job before after e h done k = (
+  (
+      k.0,
+      told-map before.files (λ files. job_of read files ≡ Ok job) (λ files. course_of words files ≡ Err (failure.BadLog line why))
+          (λ files j. course-job words read files job (Err (failure.BadLog line why)) e j done.0) h,
+  ),
+  done.1,
+)
 run-works (Err other) words read job before after e h done k = absurd done
 
 -- ---- counts
@@ -171,3 +179,4 @@ worded-works (Err other) words read job before after e h = rw e refl
 pub plain-job : (meant : Option Words) (read : Words) (j : Job) → meant ≡ Some read → AsksNoRun meant → IsAskedBy read j → WritesNothing j
 plain-job meant (form.Plain workflow) j e none is = is
 plain-job meant (form.Run words) j e none is = absurd (rw e at none)
+plain-job meant (form.Replay words) j e none is = is

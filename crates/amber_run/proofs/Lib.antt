@@ -10,3 +10,4 @@ pub mod Scripted
 pub mod Answers
 pub mod RunsShown
 pub mod ByChange
+pub mod Replaying

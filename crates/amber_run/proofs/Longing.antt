@@ -1,5 +1,5 @@
 -- Where the answer of a call is `Long`.
-use Rattle.std.proofs.Common.{◌≡◌, ◌≢◌, ℕ, ◌<◌, ◌⊎◌, inl, inr, List, ◌++◌, Result, Ok, Err, Bool, true, false, nat_le, refl, sym, subst, ◌∙◌, arith}
+use Rattle.std.proofs.Common.{◌≡◌, ◌≢◌, ℕ, ◌<◌, ◌⊎◌, inl, inr, List, ◌++◌, Option, None, Some, Result, Ok, Err, Bool, true, false, nat_le, refl, sym, subst, ◌∙◌, arith}
 use Rattle.std.proofs.lemmas.Bool.Decides.{nat_tests}
 use Rattle.amber_io.specs.Counts.{Rose}
 use Rattle.amber_io.specs.Folder.{Named, Told}
@@ -9,7 +9,8 @@ use Rattle.amber_log.specs.LogText.{log_text}
 use Rattle.amber_log.proofs.Torn.{reads-whole}
 use Rattle.amber_meaning.specs.Plain.{row_total}
 use Rattle.amber_run.specs.Answering.{IsBrokenOff, Fulfils}
-use Rattle.amber_course.specs.Course.{course_of, require_limit, most_rows}
+use Rattle.amber_course.specs.Course.{course_of, illegal_line_in, legal_or, require_limit, most_rows}
+use Rattle.amber_course.specs.declared.job.ReplayJob.{ReplayJob}
 use Rattle.amber_run.specs.Outcome.{Answers, AsksFor, Breaks, IsLongWhere, IsPrintStatus, RunsLong, Stops, StopsLong, Succeeds, TellsLong}
 use Rattle.amber_run.specs.UnderWay.{IsDone, IsLeft}
 use Rattle.amber_course.specs.Failure.{status_of}
@@ -53,6 +54,14 @@ long-print inputs result a b false is h quiet =
       | inl long ↦ inr ((λ e. many-rows (row_total inputs.flow inputs.files) most_rows is), (λ over. long))
       | inr rest ↦ elim rest [ inl none ↦ inl none | inr read ↦ absurd (quiet read.1) ]
     ]
+
+-- a transcript that is printed, by whether the log is legal
+long-replay : (r : ReplayJob) (result : Status) (a b : ℕ) (bad : Option ℕ) → Answers (legal_or r bad) result a b → ¬ (Rose a b) → result ≢ status.Long
+long-replay r result a b None (inl print) quiet e = absurd (print-short result print e)
+long-replay r result a b None (inr read) quiet e = absurd (quiet read.1)
+long-replay r result a b (Some line) (inl is) quiet e = cc
+long-replay r result a b (Some line) (inr (inl none)) quiet e = cc
+long-replay r result a b (Some line) (inr (inr read)) quiet e = absurd (quiet read.1)
 
 -- ---- logs
 
@@ -159,6 +168,9 @@ long-job : (words : List (List ℕ)) (before mid : World) (puts : ℕ) (result :
 long-job words before mid puts result files (job.Plain inputs) h run asks read kept =
     long-print inputs result before.loads mid.loads (nat_le (row_total inputs.flow inputs.files) most_rows) refl
     (subst (λ r. Answers r result before.loads mid.loads) (course-job words asks.0 files (job.Plain inputs) (require_limit (job.Plain inputs)) asks.1 asks.2 refl) h) read
+long-job words before mid puts result files (job.Replay one) h run asks read kept =
+    long-replay one result before.loads mid.loads (illegal_line_in one)
+    (subst (λ r. Answers r result before.loads mid.loads) (course-job words asks.0 files (job.Replay one) (require_limit (job.Replay one)) asks.1 asks.2 refl) h) read
 long-job words before mid puts result files (job.Run one) h run asks read kept =
     run one (course-job words asks.0 files (job.Run one) (Ok (job.Run one)) asks.1 asks.2 refl) read kept
 

@@ -8,11 +8,12 @@ use Rattle.amber_meaning.specs.declared.answer.Answer.{Answer}
 use Rattle.amber_course.specs.Course.{most_rows, require_limit}
 use Rattle.amber_course.specs.Loaded.{Loaded}
 use Rattle.amber_course.specs.Steps.{Sent}
+use Rattle.amber_course.specs.declared.job.ReplayJob.{ReplayJob}
 use Rattle.amber_course.specs.declared.job.RunJob.{RunJob}
 use Rattle.amber_course.specs.declared.job.Job.TheVariants as job
 use Rattle.amber_course.specs.declared.failure.Failure.{Failure}
 use Rattle.amber_course.specs.declared.failure.Failure.TheVariants as failure
-use Rattle.amber_run.specs.Answering.{Fails, IsAnswer, Works}
+use Rattle.amber_run.specs.Answering.{Fails, IsAnswer, IsReplayed, Works}
 use Rattle.amber_run.specs.Outcome.{WroteNothing}
 use Rattle.amber_run.specs.UnderWay.{Worked}
 use Rattle.amber_run.specs.RunTask.{run_task_of}
@@ -73,6 +74,34 @@ unsent-counts other text before after h only = absurd h
 pub unsent-idle : (s : Failure) (text : List ℕ) (before after : World) → Sent {A = Unit {0}} (Err s) text before after → PutsOnly before after → WroteNothing {A = Unit {0}} (Err s) before after
 unsent-idle failure.LogFault text before after h only = absurd h
 unsent-idle other text before after h only = (ap (λ (w : World). w.files) only, ap (λ (w : World). w.writes) only, λ e. cc)
+
+-- ---- a replay
+
+-- where no text is there
+pub unreplayed : (s : Failure) (r : ReplayJob) (world : World) → IsReplayed (Err s) r → Fails s (job.Replay r) world world
+unreplayed (failure.BadLog line why) r world h = (h, (refl, keeps-same world.got world.got refl))
+unreplayed failure.NoMemory r world h = inl (refl, keeps-same world.got world.got refl)
+unreplayed other r world h = absurd h
+
+pub unreplayed-counts : (s : Failure) (r : ReplayJob) (world : World) → IsReplayed (Err s) r → FailedAs s world world
+unreplayed-counts (failure.BadLog line why) r world h = (refl, refl, refl)
+unreplayed-counts failure.NoMemory r world h = (refl, refl, refl)
+unreplayed-counts other r world h = absurd h
+
+pub unreplayed-idle : (s : Failure) (r : ReplayJob) (world : World) → IsReplayed (Err s) r → WroteNothing {A = Unit {0}} (Err s) world world
+unreplayed-idle failure.LogFault r world h = absurd h
+unreplayed-idle other r world h = (refl, refl, λ e. cc)
+
+-- where it was put, or was not
+pub replay-sent : {A : Type 0} (x : A) (r : ReplayJob) (text : List ℕ) (before after : World) → IsReplayed (Ok text) r → Sent {A = Unit {0}} (Ok tt) text before after
+    → PutsOnly before after → Works (Ok x) (job.Replay r) before after
+replay-sent x r text before after is h only = (is.0, (ap (λ (w : World). w.files) only, rw is.1 at h.1))
+
+pub replay-unsent : (s : Failure) (r : ReplayJob) (text : List ℕ) (before after : World) → IsReplayed (Ok text) r → Sent {A = Unit {0}} (Err s) text before after
+    → PutsOnly before after → Fails s (job.Replay r) before after
+replay-unsent failure.OutFault r text before after is h only = (is.0, (ap (λ (w : World). w.files) only, rw is.1 at h.2))
+replay-unsent failure.NoMemory r text before after is h only = inl (ap (λ (w : World). w.files) only, h.1)
+replay-unsent other r text before after is h only = absurd h
 
 -- ---- a run
 

@@ -20,7 +20,7 @@ use Rattle.amber_meaning.specs.Transcript.{replies, reply_of, transcript_of}
 use Rattle.amber_meaning.proofs.Fronts.{transcripts_grow}
 use Rattle.amber_debug.specs.Session.{Grew, Session, command_of, is_long_item, one_more, query_in}
 use Rattle.amber_leg.specs.Leg.{most_late}
-use Rattle.amber_recorder.specs.Left.{HasTorn, IsHalted, IsNext, IsWritten, log_with}
+use Rattle.amber_recorder.specs.Left.{HasTorn, IsHalted, IsNextItem, IsWritten, log_with}
 use Rattle.amber_recorder.specs.Recording.{Doing, MakesFile, Performs, reply_to}
 use Rattle.amber_recorder.proofs.Halting.{appends-none, ends_long-push, item-place, items-in-time, keeps-same, next-item, not-whole, performs-halts, take-front}
 use Rattle.amber_run.specs.UnderWay.{Halts, HasText, HasTornHead, HasTornItem, IsAt, IsItemFor, IsLeft, IsUnderWay, Opens, log_of_items}
@@ -130,7 +130,7 @@ written-at t left d is h = record {
 }
 
 -- an item that comes next
-item-for : (t : RunTask) (d : Session) (done : Command) (one : Item) → IsSession t d → IsNext d done one → IsItemFor t d.log done one
+item-for : (t : RunTask) (d : Session) (done : Command) (one : Item) → IsSession t d → IsNextItem d done one → IsItemFor t d.log done one
 item-for t d done one h item = record {
   command = item.command;
   legal = subst (λ query. IsLegal query (one_more d.log one)) (session-query t d h) item.legal;
@@ -191,7 +191,7 @@ session-next : (t : RunTask) (old new : Session) (done : Command) (one : Item) �
 session-next t old new done one h grew = record { flow = grew.flow ∙ h.flow; inputs = grew.files ∙ h.inputs; most = grew.most ∙ h.most }
 
 -- a command was done
-stands-next : (t : RunTask) (left : List Command) (d : Doing) (one : Item) → d.name ≡ t.name → IsAt t (d.command ∷ left) d.old d.before → IsNext d.old d.command one
+stands-next : (t : RunTask) (left : List Command) (d : Doing) (one : Item) → d.name ≡ t.name → IsAt t (d.command ∷ left) d.old d.before → IsNextItem d.old d.command one
     → d.after.files ≡ with_more d.before.files d.name (item_text one) → is_long_item one ≡ false → Appends d.before.got d.after.got (reply_to d.old one)
     → IsUnderWay t left (one_more d.old.log one) d.after
 stands-next t left d one is h item file short put =

@@ -35,6 +35,7 @@ use Rattle.amber_course.specs.declared.failure.Failure.TheVariants as failure
 use Rattle.amber_debug.specs.Session.{command_of, one_more}
 use Rattle.amber_leg.specs.Leg.{most_late}
 use Rattle.amber_laws.specs.CountStops.{StopForCounts}
+use Rattle.amber_run.specs.Answering.{replay_text}
 use Rattle.amber_run.specs.RunTask.{end_alone, most_steps}
 use Rattle.amber_run.specs.UnderWay.{log_of_items}
 use Rattle.amber_recorder.specs.Left.{AlterNothing, ClosesAs, IsTorn, ends_long}
@@ -219,6 +220,7 @@ IsUntouchedBy line change = (change.now.files ≡ change.before.files) × Append
 abbrev pub FulfilsBy : Job → Change → Type 0
 FulfilsBy (job.Plain inputs) change = IsUntouchedBy (answer_text inputs.flow (answer_of inputs.flow inputs.files)) change
 FulfilsBy (job.Run run) change = IsDoneShown (task_shown change.before run) change.now
+FulfilsBy (job.Replay r) change = IsUntouchedBy (replay_text r) change
 
 -- the job was broken off, and a line was put after it: for `plain` the sink failed, which got a front part of that text alone
 abbrev pub BreaksOffBy : Job → Failure → List ℕ → Change → Type 0
@@ -226,6 +228,9 @@ BreaksOffBy (job.Plain inputs) failure.OutFault line change =
     (change.now.files ≡ change.before.files) × Begins change.before.got change.now.got (answer_text inputs.flow (answer_of inputs.flow inputs.files))
 BreaksOffBy (job.Plain inputs) other line change = ⊥
 BreaksOffBy (job.Run run) s line change = LeavesShown (task_shown change.before run) s line change.now
+BreaksOffBy (job.Replay r) failure.OutFault line change =
+    (change.now.files ≡ change.before.files) × Begins change.before.got change.now.got (replay_text r)
+BreaksOffBy (job.Replay r) other line change = ⊥
 
 -- ---- what a call leaves
 

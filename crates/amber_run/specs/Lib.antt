@@ -1,5 +1,6 @@
 pub mod AnsweredByChange
 pub mod Answering
 pub mod Outcome
+pub mod Replaying
 pub mod RunTask
 pub mod UnderWay

@@ -48,6 +48,7 @@ IsRunStatus other = ⊥
 abbrev pub IsJobStatus : Job → Status → Type 0
 IsJobStatus (job.Plain inputs) result = IsPrintStatus result
 IsJobStatus (job.Run run) result = IsRunStatus result
+IsJobStatus (job.Replay r) result = IsPrintStatus result
 
 -- the course decides the status, unless memory runs out and for reads that failed, which raise the count of failed loads
 abbrev pub Answers : Result Job Failure → Status → ℕ → ℕ → Type 0
@@ -58,12 +59,14 @@ Answers (Err s) result old new = (result ≡ status_of s) ⊎ (result ≡ status
 abbrev pub MeetsLimit : Result Job Failure → Type 0
 MeetsLimit (Ok (job.Plain inputs)) = ⊤
 MeetsLimit (Ok (job.Run run)) = AlterNothing run.commands × (step_total (query_over run.inputs.flow run.inputs.files run.batch_size most_steps) ≤ most_steps)
+MeetsLimit (Ok (job.Replay r)) = ⊤
 MeetsLimit (Err s) = ⊥
 
 -- the statuses where the course has a job and only the sink has failed
 abbrev pub IsSinkStatus : Result Job Failure → Status → Type 0
 IsSinkStatus (Ok (job.Plain inputs)) result = (result ≡ status.OutFault) ⊎ (result ≡ status.NoMemory)
 IsSinkStatus (Ok (job.Run run)) result = (result ≡ status.OutFault) ⊎ (result ≡ status.Long) ⊎ (result ≡ status.NoMemory)
+IsSinkStatus (Ok (job.Replay r)) result = (result ≡ status.OutFault) ⊎ (result ≡ status.NoMemory)
 IsSinkStatus (Err s) result = ⊤
 
 -- the words do not ask for a run
@@ -71,6 +74,7 @@ abbrev pub AsksNoRun : Option Words → Type 0
 AsksNoRun None = ⊤
 AsksNoRun (Some (form.Plain workflow)) = ⊤
 AsksNoRun (Some (form.Run words)) = ⊥
+AsksNoRun (Some (form.Replay words)) = ⊤
 
 -- the words ask for this job, and all that is loaded for it is there and right
 abbrev pub AsksFor : List (List ℕ) → Named → Job → Type 0
@@ -91,10 +95,11 @@ abbrev pub RunsLong : Status → Option Named → Option Named → List ℕ → 
 RunsLong result told now name =
     (result ≡ status.NoMemory) ⊎ ((log : Log) × HoldsLog told now name log × ((result ≡ status.Long) ↔ (ends_long false log.items ≡ true)))
 
--- when a job is too long: `plain` where the operators give more rows than they may, a run where its log says so
+-- when a job is too long: `plain` where the operators give more rows than they may, a run where its log says so, a replay never
 abbrev pub TellsLong : Job → Status → Option Named → Option Named → Type 0
 TellsLong (job.Plain inputs) result told now = IsLongWhere result (most_rows < row_total inputs.flow inputs.files)
 TellsLong (job.Run run) result told now = RunsLong result told now run.log
+TellsLong (job.Replay r) result told now = result ≢ status.Long
 
 -- ---- what a call leaves
 

@@ -53,8 +53,12 @@ fn do_call<R: Threads + Sync, G: Gate + Sync, W: Outside>(
 ///   64, and BATCH, the rows of a batch, 1 to 65,536, in decimal without leading zeros. LOG is none of the other
 ///   files.
 ///
+/// - `replay WORKFLOW LOG` does the log in the file LOG again, which is only read, and prints what its run has printed. What is
+///   torn behind its whole items is left out. LOG is not WORKFLOW.
+///
 /// The words are read, and the workflow is loaded and read; for a run LOG is compared with the scans' files, and
-/// the script is loaded and read; then each scan's file is loaded and its header compared. `plain` computes the
+/// the script is loaded and read; then each scan's file is loaded and its header compared; for `replay` LOG is compared like that,
+/// and at last loaded, read and judged. `plain` computes the
 /// answer, over at most 2^40 rows of all operators, and puts it in one call. A run makes LOG anew and appends its
 /// head in one call; then, for each command, the item is appended in one call, and the reply is put in one call. A
 /// leg that comes to 2^40 steps is appended before the call ends with `Long`.

@@ -1,7 +1,8 @@
-//! What a call answers and leaves, told in two ways. Each function does nothing; its contract is the law, stated
-//! in `specs/AnsweredByChange.antt`.
+//! What a call answers and leaves, told in two ways, and what a replay comes to. Each function does nothing; its contract is the
+//! law, stated in `specs/AnsweredByChange.antt` and `specs/Replaying.antt`.
 
 ghost use Rattle.amber_run.specs.AnsweredByChange.{AnswersAreOne, StopsAreOne};
+ghost use Rattle.amber_run.specs.Replaying.{FrontsAreReplayed};
 
 /// What a call that stopped leaves, with a part of the failure's line, is what it leaves before the line, and then
 /// that part. A sink that failed gets no line.
@@ -13,4 +14,10 @@ pub fn stops_are_one()
 /// after.
 pub fn answers_are_one()
     ensures { AnswersAreOne }
+{}
+
+/// The first items of a legal log, however many, are replayed where they stand in a file: the call is not refused, and prints
+/// their transcript where it ends well.
+pub fn fronts_are_replayed()
+    ensures { FrontsAreReplayed }
 {}

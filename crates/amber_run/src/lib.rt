@@ -26,7 +26,9 @@
 //! lists are empty. The program itself does the same over `RealFolder` and `RealSink`. `printed` keeps the rows of the answer.
 #![tactic(auto)]
 
-pub use amber_course::{Failure, Job, Reason, RunWords, ScriptWhy, Status, Words};
+pub use amber_course::{
+    Failure, Job, LogWhy, Reason, ReplayJob, ReplayWords, RunWords, ScriptWhy, Status, Words,
+};
 pub use call::amber;
 pub use printed::Printed;
 
@@ -35,4 +37,5 @@ mod job;
 pub mod laws;
 mod plain_job;
 mod printed;
+mod replay_job;
 mod run_job;
