@@ -22,4 +22,6 @@ mod lent;
 #[cfg(test)]
 mod query;
 #[cfg(test)]
+mod rebuilt;
+#[cfg(test)]
 mod side_by_side;
