@@ -5,6 +5,7 @@
 //! where the program runs, in the order of their names. `docs/ADDING_CASES.md` has their format.
 #![tactic(auto)]
 
+mod replayed;
 mod report;
 mod session_call;
 mod trial;

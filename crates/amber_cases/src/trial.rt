@@ -1,5 +1,6 @@
-//! The runs of a case. Over `Case` of `amber_case_text`, on the folder and the sink in memory of `amber_io`.
+//! The runs of a case, and replays of the logs that they leave. Over `Case` of `amber_case_text`, on the folder and the sink in memory of `amber_io`.
 
+use crate::replayed::replay_difference;
 use crate::session_call::call_session;
 use amber_case_text::{Case, CaseText, Left, compare_answer, compare_bytes};
 use amber_io::{Fails, MemFolder, MemSink, NamedFiles, Numbers};
@@ -89,12 +90,35 @@ fn try_run<R: Threads + Sync>(
 ) -> Result<Option<String>, AllocError> {
     let folder = folder_of(alloc, case, keep)?;
     let sink = MemSink::new(alloc, fails_of(alloc, case, keep)?);
-    let given = call(rt, alloc, words, folder, sink);
+    let mut given = call(rt, alloc, words, folder, sink);
     let mut found = difference(alloc, case, keep, &given)?;
+    if found.is_none() {
+        found = replayed_difference(rt, alloc, case, words, &mut given)?;
+    }
     if let Some(found) = &mut found {
         append_place(alloc, found, case, words, keep)?;
     }
     Ok(found)
+}
+
+// How the replay of its log differs from a run that ended well, and in which no call was to fail.
+fn replayed_difference<R: Threads + Sync>(
+    rt: &R,
+    alloc: Global,
+    case: &Case,
+    words: &[String],
+    given: &mut Given,
+) -> Result<Option<String>, AllocError> {
+    let fails = case.loads.len() + case.writes.len() + case.puts.len();
+    if given.status != 0 || fails != 0 {
+        return Ok(None);
+    }
+    let Given {
+        status: _,
+        folder,
+        out,
+    } = given;
+    replay_difference(rt, alloc, words, folder, out.bytes())
 }
 
 // The folder in memory that a case gives.
