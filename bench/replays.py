@@ -5,7 +5,7 @@ Usage: bench/replays.py PROGRAM [LOGS [SEED]] [--large]
 
 PROGRAM is the built program (crates/amber/out/amber), LOGS the number of runs of each of the ten jobs of `many.py` (3). Each log
 is replayed as it is, up to each of its whole items, cut within a line, and changed in a hundred places: a number one more or one
-less, a line dropped or doubled. `--large` does so, but for the changes, with three logs of about a megabyte. What a replay is to
+less, a line dropped or doubled. `--large` replays three logs of a megabyte or more up to each of their items. What a replay is to
 answer is computed by `judge.py` from the files and the log, line by line: the transcript of the whole items, or the first line
 that no log may have (`Text`) or that may not stand there (`Illegal`). Ends with status 0 exactly where nothing differs.
 """
@@ -21,6 +21,7 @@ sys.dont_write_bytecode = True
 
 import judge
 from changes import changes
+from jobs import ITEMS, ORDER, PRICE, Job, join, kept, orders, scan, table
 from judge import replies
 from logtext import Leg, Refused, read_log
 from many import JOBS, amber, do, drawn, make_folder, write
@@ -115,27 +116,51 @@ def try_log(task):
     return len(logs), refused, wrong
 
 
-def large_script(job, rows):
+ROWS = 40000
+STOPS = 40
+
+
+def large_alone(rng):
+    """One worker for each operator."""
+    return [scan("orders", ORDER), kept("some", "orders", "qty", ">=", 5)], {"orders.csv": table(ORDER, orders(rng, ROWS))}
+
+
+def large_filters(rng):
+    """Filters behind each other, with unlike numbers of workers."""
+    return [scan("orders", ORDER, 3), kept("some", "orders", "qty", ">=", 5, 2),
+            kept("low", "some", "qty", "<", 95, 4)], {"orders.csv": table(ORDER, orders(rng, ROWS))}
+
+
+def large_priced(rng):
+    """A join by two workers."""
+    return [scan("prices", PRICE), scan("orders", ORDER, 2), join("priced", "prices", "orders", ["name"], ["item"], 2)], {
+        "prices.csv": table(PRICE, [(item, 3) for item in ITEMS]), "orders.csv": table(ORDER, orders(rng, ROWS))}
+
+
+def large_script(job):
     """Commands that stop a job at its first filter or join again and again."""
     operator = next(one for one in job.flow.operators if one.kind in ("filter", "join"))
-    return [step for place in range(1, 101) for step in (("count", operator.number, max(1, rows // 100)), ("run",))]
+    return [step for _ in range(STOPS) for step in (("count", operator.number, ROWS // STOPS // 2), ("run",))]
 
 
 def try_large(task):
-    program, top, place, threads = task
-    rng, job = random.Random(place), JOBS[place]
-    folder = os.path.join(top, f"large-{place}")
+    """Replays a log of a job in batches of one row up to each of its whole items."""
+    program, top, make = task
+    job = Job(make)
+    folder = os.path.join(top, job.name)
     make_folder(job, folder)
-    run = Run(job, 0, large_script(job, 2000), threads, 1)
+    run = Run(job, 0, large_script(job), 2, 1)
     do(program, folder, run)
+    told, _ = replies(job.flow, job.records, *read_log(run.log))
+    ends = [found.end() for found in re.finditer(rb"(?m)^(amber .*|cut|long|do .*)\n", run.log)]
     wrong = []
-    logs = fronts(rng, run.log)
-    for data in logs:
-        found = differs(program, folder, job, data)
-        if found is not None:
-            wrong.append(f"{run}: {found}")
-    print(f"{run}: {len(run.log)} bytes, {len(logs)} fronts", flush=True)
-    return len(logs), 0, wrong
+    for place, end in enumerate(ends):
+        write(folder, "log", run.log[:end])
+        status, printed, errors = amber(program, folder, "replay", "workflow.json", "log")
+        if (status, printed, errors) != (0, b"".join(told[:place]), b""):
+            wrong.append(f"{run}: the front of {end} bytes gives {status} {printed[-200:]}")
+    print(f"{run}: {len(run.log)} bytes, {len(ends)} fronts", flush=True)
+    return len(ends), 0, wrong
 
 
 def words():
@@ -152,8 +177,7 @@ def main():
     program, top = os.path.abspath(given.program), tempfile.mkdtemp(prefix="amber-replays-")
     print(f"seed {given.seed}", flush=True)
     if given.large:
-        places = [place for place, job in enumerate(JOBS) if any(one.kind in ("filter", "join") for one in job.flow.operators)]
-        tasks, work = [(program, top, place, 2) for place in places[:3]], try_large
+        tasks, work = [(program, top, make) for make in (large_alone, large_filters, large_priced)], try_large
     else:
         tasks = [(program, top, given.seed, place, number, CHANGES) for number in range(given.logs) for place in range(len(JOBS))]
         work = try_log
