@@ -48,7 +48,15 @@ pub fn replay_difference<R: Threads + Sync>(
     };
     let mut out = open_sink(alloc);
     let mut rows = Printed::new();
-    let status = amber(rt, alloc, words.as_slice(), folder, &mut out, &mut rows, &OpenGate);
+    let status = amber(
+        rt,
+        alloc,
+        words.as_slice(),
+        folder,
+        &mut out,
+        &mut rows,
+        &OpenGate,
+    );
     if status != Status::Ok {
         let code = status.code();
         return Ok(Some(format!(in alloc; "the replay of its log has status {code}")?));

@@ -169,7 +169,6 @@ job_of (form.Plain workflow) files =
 job_of (form.Run words) files =
     then_on (run_flow words.workflow words.log files)
     (λ flow. then_on (script_in words.script flow files) (λ commands. then_on (loaded_for flow files) (λ inputs. Ok (job.Run (run_of words commands inputs)))))
-
 job_of (form.Replay words) files =
     then_on (run_flow words.workflow words.log files)
     (λ flow. then_on (loaded_for flow files) (λ inputs. then_on (log_in words.log files) (λ log. Ok (job.Replay (record { inputs = inputs; log = log })))))

@@ -32,9 +32,9 @@ mapped-alike f g (suc n) same =
     ∙ sym (map-append g (numbers_below n) (n ∷ []))
 
 module _ (query : Query) (start : State) (positions : ℕ → Position) (worker : ℕ) (inside : worker < crew_of query.flow) (q : Position) where
-
   abbrev now : State
   now = state_reached query start positions
+
   abbrev behind : State
   behind = with_position worker q now
 

@@ -186,7 +186,7 @@ module _ (old new : List WorkerState) (from to : ℕ) (passed : PassedOn old fro
     joined = λ from to from-in to-in. joined-each old new ends-passed from to (stand.joined from to from-in to-in);
   }
 
--- ---- for the entry that takes a batch
+  -- ---- for the entry that takes a batch
 
   pub passed-for : (batch : ℕ) → PassesFor to (entry.Take from batch) old new
   passed-for batch = record {

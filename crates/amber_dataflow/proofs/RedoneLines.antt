@@ -75,13 +75,15 @@ met-offered offer orders p entry.Finish offered is there = tt
 -- ---- the line is done
 
 module _ (at : Stance) (crew : List WorkerState) (one : LineOf) (before : StandBefore at one crew) (inside : one.worker < length crew) where
-
   abbrev worker : ℕ
   worker = one.worker
+
   abbrev made : Entry
   made = one.line.entry
+
   abbrev orders : Orders
   orders = orders_in at.query at.start worker
+
   abbrev p : Position
   p = at.positions worker
 
@@ -99,10 +101,13 @@ module _ (at : Stance) (crew : List WorkerState) (one : LineOf) (before : StandB
   module _ (now : WorkerState) (done : HasRedone one.line (worker_state_at crew worker) now) where
     abbrev offered : Option Batch
     offered = offered_to done.found made
+
     abbrev q : Position
     q = position_after orders offered made p
+
     abbrev later : ℕ → Position
     later = placed at.positions worker q
+
     abbrev moved : List WorkerState
     moved = set crew worker now
 

@@ -12,12 +12,7 @@ use std::test::Fail;
 use std::thread::Threads;
 
 // The home that a log of the query over this file leads to.
-fn rebuilt<R: Threads + Sync>(
-    rt: &R,
-    alloc: Global,
-    file: &str,
-    log: &str,
-) -> Result<Home, Fail> {
+fn rebuilt<R: Threads + Sync>(rt: &R, alloc: Global, file: &str, log: &str) -> Result<Home, Fail> {
     let flow = query(alloc)?;
     let files = files_of(alloc, file)?;
     let bytes = Bytes::new(Vec::from_slice(alloc, log.as_bytes())?);

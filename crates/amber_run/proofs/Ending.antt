@@ -95,9 +95,9 @@ run-works (Err failure.NoMemory) words read job before after e h (inl done) k = 
 run-works (Err failure.NoMemory) words read job before after e h (inr done) k = inr (k.0, broken failure.NoMemory words read job before after e h done.0 done.1)
 run-works (Err (failure.BadLog line why)) words read job before after e h done k = (
   (
-      k.0,
-      told-map before.files (λ files. job_of read files ≡ Ok job) (λ files. course_of words files ≡ Err (failure.BadLog line why))
-          (λ files j. course-job words read files job (Err (failure.BadLog line why)) e j done.0) h,
+    k.0,
+    told-map before.files (λ files. job_of read files ≡ Ok job) (λ files. course_of words files ≡ Err (failure.BadLog line why))
+        (λ files j. course-job words read files job (Err (failure.BadLog line why)) e j done.0) h,
   ),
   done.1,
 )
