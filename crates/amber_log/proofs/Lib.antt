@@ -4,12 +4,15 @@ pub mod Endings
 pub mod Exact
 pub mod FoundOperands
 pub mod FoundWords
+pub mod Lengths
 pub mod Longest
+pub mod Openings
 pub mod Named
 pub mod OperandsRead
 pub mod Pieces
 pub mod Plain
 pub mod Pushes
+pub mod ReadLengths
 pub mod Sound
 pub mod Torn
 pub mod Utf8Bytes

@@ -1,5 +1,5 @@
 -- What there is to say of a command that is done at rest. The data stand in src/effect.rt; other crates import them from specs.declared.effect.
-use Rattle.std.specs.Prelude.{ℕ, [], Option, None, Some, Bool, true, false, ◌&&◌, not}
+use Rattle.std.specs.Prelude.{ℕ, [], Option, None, Some, Bool, true, false}
 pub use Rattle.amber_log.specs.declared.effect.Argument.{Argument}
 pub use Rattle.amber_log.specs.declared.effect.Argument.TheVariants.{Nothing, Rows, Worker, Constant, Condition}
 pub use Rattle.amber_log.specs.declared.effect.Change.{Change}
@@ -27,17 +27,7 @@ done_at op = record {
   reply = Done;
 }
 
--- ---- what runs do so far
-
-abbrev pub is_put : {A : Type 0} → Change A → Bool
-is_put Keep = false
-is_put TakeBack = false
-is_put (Put one) = true
-
+-- no worker is meant
 abbrev pub is_nobody : Option ℕ → Bool
 is_nobody None = true
 is_nobody (Some worker) = false
-
--- no count and no condition is armed, no row is dropped, and no worker is lost
-abbrev pub is_built : Effect → Bool
-is_built effect = not (is_put effect.arming.count) && (not (is_put effect.arming.when) && (is_nobody effect.drops && is_nobody effect.loses))

@@ -2,6 +2,7 @@ pub mod Commands
 pub mod Effect
 pub mod Fits
 pub mod Grammar
+pub mod Items
 pub mod Laws
 pub mod LogText
 pub mod Operands

@@ -1,8 +1,5 @@
 //! What there is to say of a command that is done at rest. Rests on `Lent` for what it borrows.
 
-ghost use Rattle.std.specs.Prelude.{◌≡◌};
-ghost use Rattle.amber_log.specs.Effect.{is_built, is_nobody, is_put};
-
 use crate::lent::{Lent, Word, Words};
 use amber_rows::{Cond, Value};
 
@@ -67,27 +64,6 @@ pub struct Effect<'a> {
     /// The worker that it loses.
     pub loses: Option<u32>,
     pub reply: Reply,
-}
-
-impl<A> Change<A> {
-    /// Whether another takes its place.
-    pub fn is_put(&self) -> bool
-        ensures { result ≡ is_put self.now }
-    {
-        matches!(self, Change::Put(_))
-    }
-}
-
-impl Effect<'_> {
-    /// Whether runs do it: no count and no condition is armed, no row is dropped, and no worker is lost.
-    pub fn is_built(&self) -> bool
-        ensures { result ≡ is_built self.now }
-    {
-        !self.arming.count.is_put()
-            && !self.arming.when.is_put()
-            && self.drops.is_none()
-            && self.loses.is_none()
-    }
 }
 
 /// What a command does.

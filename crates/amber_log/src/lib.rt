@@ -9,6 +9,7 @@
 pub mod command;
 pub mod command_text;
 mod comparison_signs;
+pub mod counting;
 pub mod effect;
 pub mod entry;
 pub mod fitting;
@@ -22,6 +23,7 @@ pub mod reading;
 pub use command::{Command, Commands};
 pub use command_text::commands_have_text;
 pub use comparison_signs::sign;
+pub use counting::{item_length, leg_length, part_length};
 pub use effect::{Action, Argument, Arming, Change, Effect, Reply};
 pub use entry::{Entries, Entry};
 pub use fitting::{fits, is_source};

@@ -1,6 +1,7 @@
--- How many lines a log has: no more than its file has bytes.
-use Rattle.std.proofs.Common.{inl, inr, ◌≡◌, ℕ, ◌+◌, ◌≤◌, List, [], ◌∷◌, length, sym, ap, ◌∙◌, arith, length-append}
+-- A log that was read has a text, and no more lines than its file has bytes.
+use Rattle.std.proofs.Common.{inl, inr, ◌≡◌, ℕ, ◌+◌, ◌≤◌, List, [], ◌∷◌, length, sym, ap, subst, ◌∙◌, arith, length-append}
 use Rattle.std.specs.List.{flat_map}
+use Rattle.amber_log.specs.Grammar.{AreItems, IsLog}
 use Rattle.amber_log.specs.LogText.{head_text, item_lines, item_text, line_text, log_text}
 use Rattle.amber_log.specs.ReadAs.{IsReadAs, whole_items}
 use Rattle.amber_log.specs.Words.{spell}
@@ -36,3 +37,9 @@ read-few bytes log (inl (is, e)) =
     ap (λ (b : List ℕ). length b) e ∙ length-append (head_text log.batch) (flat_map item_text log.items) in
     omega (arith, parts, text, items-few log.items)
 read-few bytes log (inr (none, e)) = let few : length (flat_map item_lines log.items) ≡ 0 = ap (λ (l : Log). length (flat_map item_lines l.items)) e in omega (arith, few)
+
+-- a log that was read has a text
+pub read-text : (bytes : List ℕ) (log : Log) → IsReadAs bytes log → IsLog log
+unfolding AreItems
+read-text bytes log (inl (is, e)) = is
+read-text bytes log (inr (none, e)) = subst IsLog (sym e) (record { batch = (omega arith, omega arith); items = tt })

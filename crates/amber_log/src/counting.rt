@@ -1,12 +1,13 @@
-//! How many lines parts, legs and items have in a log. Over `Item` of `amber_log`.
+//! How many lines parts, legs and items have in a log. Over `Item`.
 
 ghost use Rattle.std.specs.Prelude.{◌≡◌, ◌<◌, ◌^◌, length};
 ghost use Rattle.amber_log.specs.LogText.{item_lines, leg_lines, part_lines};
 
-use amber_log::{Item, Leg, Part};
+use crate::leg::{Leg, Part};
+use crate::log::Item;
 
 /// How many lines a part has: that of its worker, and one for each entry.
-pub(crate) fn part_length(part: &Part) -> u64
+pub fn part_length(part: &Part) -> u64
     requires { length (part_lines part.now) < 2 ^ 33 }
     ensures { result ≡ length (part_lines part.now) }
 {
@@ -14,7 +15,7 @@ pub(crate) fn part_length(part: &Part) -> u64
 }
 
 /// How many lines a leg has, behind the one that opens it.
-pub(crate) fn leg_length(leg: &Leg) -> u64
+pub fn leg_length(leg: &Leg) -> u64
     requires { length (leg_lines leg.now) < 2 ^ 33 }
     ensures { result ≡ length (leg_lines leg.now) }
 {
@@ -26,7 +27,7 @@ pub(crate) fn leg_length(leg: &Leg) -> u64
 }
 
 /// How many lines an item has.
-pub(crate) fn item_length(item: &Item) -> u64
+pub fn item_length(item: &Item) -> u64
     requires { length (item_lines item.now) < 2 ^ 33 }
     ensures { result ≡ length (item_lines item.now) }
 {

@@ -3,8 +3,8 @@ use Rattle.std.proofs.Common.{◌∷◌, [], arith, length-append}
 use Rattle.std.specs.List.{flat_map}
 use Rattle.amber_log.specs.LogText.{part_lines}
 use Rattle.amber_log.specs.declared.line.Line.TheVariants as line
-use Rattle.amber_recover.proofs.Lengths.{parts-few}
-use Rattle.amber_recover.proofs.counting.leg_length.Goals as goal
+use Rattle.amber_log.proofs.Lengths.{parts-few}
+use Rattle.amber_log.proofs.counting.leg_length.Goals as goal
 
 pub part_length-lines-requires : goal.part_length-lines-requires
 part_length-lines-requires c =
