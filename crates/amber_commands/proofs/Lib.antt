@@ -1,7 +1,6 @@
 pub mod Commanding
 pub mod Ending
 pub mod Leading
-pub mod Lengths
 pub mod Naming
 pub mod ReadBack
 pub mod Reporting

@@ -3,20 +3,20 @@
 
 ghost use Rattle.std.specs.Prelude.{◌≡◌, ◌<◌, ◌^◌, length};
 ghost use Rattle.std.specs.List.{flat_map};
-ghost use Rattle.amber_log.specs.LogText.{item_lines, leg_lines};
+ghost use Rattle.amber_log.specs.LogText.{item_lines};
 ghost use Rattle.amber_script.specs.Commands.{is_scripted};
 ghost use Rattle.amber_commands.specs.Commands.{are_scripted, commands_in, fits_script, unfit_line};
 
-use amber_log::{Action, Command, Item, Leg, fits};
+use amber_log::{Action, Command, Item, fits, item_length};
 use amber_rows::Flow;
 
-// A command as a script may have it: it is no leg to the end, and loses no worker.
+// A command as a script may have it: it is no leg to the end.
 fn is_scripted(command: &Command) -> bool
     ensures { result ≡ is_scripted command.now }
 {
     match command.action() {
         Action::Leg { to_end } => !to_end,
-        Action::AtRest(effect) => effect.loses.is_none(),
+        Action::AtRest(_) => true,
     }
 }
 
@@ -35,29 +35,6 @@ fn is_fit(flow: &Flow, item: &Item) -> bool
     match item {
         Item::Do(command) => fits_script(flow, command),
         Item::Run(_) | Item::End(_) => true,
-    }
-}
-
-// How many lines a leg has in a log, behind the one that opens it.
-fn leg_length(leg: &Leg) -> u64
-    requires { length (leg_lines leg.now) < 2 ^ 32 }
-    ensures { result ≡ length (leg_lines leg.now) }
-{
-    let mut lines = 1;
-    for part in leg.parts.get() {
-        lines += 1 + part.entries.get().len() as u64;
-    }
-    lines
-}
-
-// How many lines an item has in a log.
-fn item_length(item: &Item) -> u64
-    requires { length (item_lines item.now) < 2 ^ 32 }
-    ensures { result ≡ length (item_lines item.now) }
-{
-    match item {
-        Item::Do(_) => 1,
-        Item::Run(leg) | Item::End(leg) => 1 + leg_length(leg),
     }
 }
 

@@ -2,4 +2,3 @@ pub mod Following
 pub mod Lines
 pub mod Scanning
 pub mod LogScans
-pub mod Lengths

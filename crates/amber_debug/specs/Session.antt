@@ -3,6 +3,7 @@ use Rattle.std.specs.Prelude.{◌≡◌, ℕ, ◌⊎◌, List, [], ◌∷◌, �
 use Rattle.amber_rows.specs.declared.flow.Operator.{Operator}
 use Rattle.amber_log.specs.Commands.{action_of}
 use Rattle.amber_log.specs.Grammar.{ends_over, is_long}
+pub use Rattle.amber_log.specs.Items.{command_of}
 use Rattle.amber_log.specs.LogText.{item_text}
 use Rattle.amber_log.specs.declared.command.Command.{Command}
 use Rattle.amber_log.specs.declared.command.Command.TheVariants as command
@@ -42,12 +43,6 @@ query_in d = query_over d.flow d.files d.log.batch d.most
 pub record IsKept (home : HomeState) (spent : Bool) : Type 0 where
   pub legal : IsLegal (query_of home) home.log
   pub rests : spent ≡ false → ends_over false home.log.items ≡ false → home.phase ≡ phase.Resting
-
--- the command that an item was made for
-abbrev pub command_of : Item → Command
-command_of (item.Do command) = command
-command_of (item.Run leg) = command.Run
-command_of (item.End leg) = command.End
 
 -- a leg that was closed because the steps were as many as may be
 abbrev pub is_long_item : Item → Bool

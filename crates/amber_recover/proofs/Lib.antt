@@ -2,7 +2,6 @@ pub mod AtRest
 pub mod ItemsDone
 pub mod Judging
 pub mod LegsDone
-pub mod Lengths
 pub mod PartsDone
 pub mod Recovered
 pub mod Told

@@ -10,10 +10,9 @@ ghost use Rattle.amber_home.specs.HomeState.{item_of_leg, state_of};
 ghost use Rattle.amber_home.specs.declared.phase.Phase.TheVariants as phase;
 ghost use Rattle.amber_recover.specs.Redone.{HasRedoneItem, bad_in_item};
 
-use crate::counting::leg_length;
 use crate::parts::redo_parts;
 use amber_home::Home;
-use amber_log::{Command, Item, Leg, fits};
+use amber_log::{Command, Item, Leg, fits, leg_length};
 use std::alloc::{AllocError, Global};
 
 /// Does a command again that is no leg. The answer is its line, if the workflow does not take it.

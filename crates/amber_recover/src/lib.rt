@@ -17,7 +17,6 @@
 //! gives the home that rests where the run was cut off: a leg may be opened there, or a command done.
 #![tactic(auto)]
 
-mod counting;
 pub mod error;
 mod items;
 mod parts;

@@ -7,9 +7,8 @@ ghost use Rattle.amber_log.specs.LogText.{part_lines};
 ghost use Rattle.amber_home.specs.Redoing.{may_redo};
 ghost use Rattle.amber_recover.specs.Redone.{HasDoneParts, bad_in_parts};
 
-use crate::counting::part_length;
 use amber_home::Home;
-use amber_log::Part;
+use amber_log::{Part, part_length};
 use std::alloc::AllocError;
 
 // Does again what one worker did in the leg that is open. The answer is the first line that cannot stand there, if there is

@@ -13,12 +13,11 @@ ghost use Rattle.amber_home.specs.declared.phase.Phase.TheVariants as phase;
 ghost use Rattle.amber_recover.specs.Recovering.{StartsOrNames, JudgesLines, Recovers, bad_behind_head};
 ghost use Rattle.amber_recover.specs.Redone.{HasRedoneItem, bad_in_item};
 
-use crate::counting::item_length;
 use crate::error::RebuildErr;
 use crate::items::redo_item;
 use crate::replies::tell_item;
 use amber_home::Home;
-use amber_log::{Item, Log};
+use amber_log::{Item, Log, item_length};
 use amber_meaning::wrong_header;
 use amber_rows::{Bytes, Files, Flow};
 use std::alloc::{AllocError, Global};

@@ -237,8 +237,16 @@ kind_before_mismatch : Refuses (codes "set o x") 1 why.Kind
 unfolding scripts_on_literals
 kind_before_mismatch = refl
 
--- ---- a command that scripts do not have
+-- ---- workers that are lost
 
-loss : Refuses (codes "lose o 0") 1 why.Word
+loss : Reads (codes "lose f 1") (command.Lose 2 1 ∷ [])
 unfolding scripts_on_literals
 loss = refl
+
+loss_of_nobody : Refuses (codes "lose f 2") 1 why.Worker
+unfolding scripts_on_literals
+loss_of_nobody = refl
+
+loss_without_worker : Refuses (codes "lose f") 1 why.Word
+unfolding scripts_on_literals
+loss_without_worker = refl

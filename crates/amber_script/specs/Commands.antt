@@ -1,5 +1,5 @@
 -- The command that words mean, or the first reason why they mean none.
-use Rattle.std.specs.Prelude.{ℕ, ◌+◌, ◌^◌, List, [], ◌∷◌, codes, bytes_eq, not, position, Option, Some, None, option_map, option_and_then, ok_or, Result, Ok, Err, Bool, if◌then◌else◌}
+use Rattle.std.specs.Prelude.{ℕ, ◌+◌, ◌^◌, List, [], ◌∷◌, codes, bytes_eq, not, position, Option, Some, None, option_map, option_and_then, ok_or, Result, Ok, Err, Bool, true, if◌then◌else◌}
 use Rattle.std.specs.List.{list_all}
 use Rattle.std.specs.Str.{is_utf8}
 use Rattle.amber_rows.specs.declared.cond.Cmp.{Cmp}
@@ -16,7 +16,6 @@ use Rattle.amber_rows.specs.declared.column.Column.{Column}
 use Rattle.amber_rows.specs.declared.flow.What.{What}
 use Rattle.amber_rows.specs.declared.flow.Operator.{Operator}
 use Rattle.amber_log.specs.Commands.{action_of}
-use Rattle.amber_log.specs.Effect.{is_nobody}
 use Rattle.amber_log.specs.Fits.{has_worker, is_source}
 use Rattle.amber_log.specs.Operands.{comparison_of}
 use Rattle.amber_log.specs.declared.effect.Action.{Action}
@@ -161,6 +160,7 @@ command_by flow name words =
     else if bytes_eq name (codes "set") then of_two (operator_and_constant flow) words >>= (λ said. Ok (command.Set said.0 said.1))
     else if bytes_eq name (codes "drop") then of_two (operator_and_worker flow) words >>= (λ said. Ok (command.Drop said.0 said.1))
     else if bytes_eq name (codes "inspect") then operator_behind flow words >>= (λ op. Ok (command.Inspect op))
+    else if bytes_eq name (codes "lose") then of_two (operator_and_worker flow) words >>= (λ said. Ok (command.Lose said.0 said.1))
     else Err why.Word
 
 -- the command of these words
@@ -168,10 +168,10 @@ abbrev pub command_said : List Operator → List (List ℕ) → Result Command S
 command_said flow [] = Err why.Word
 command_said flow (name ∷ words) = command_by flow name words
 
--- a leg goes on until something stops it, and nothing that is done at rest loses a worker
+-- a leg goes on until something stops it
 abbrev pub may_stand : Action → Bool
 may_stand (Leg to_end) = not to_end
-may_stand (AtRest effect) = is_nobody effect.loses
+may_stand (AtRest effect) = true
 
 -- a command that a script may have
 abbrev pub is_scripted : Command → Bool

@@ -192,6 +192,7 @@ fn command_by(
         "set" => Ok(constant(flow, words)?.map(|(op, value)| Command::Set { op, value })),
         "drop" => Ok(worker(flow, words).map(|(op, worker)| Command::Drop { op, worker })),
         "inspect" => Ok(operator(flow, words).map(|op| Command::Inspect { op })),
+        "lose" => Ok(worker(flow, words).map(|(op, worker)| Command::Lose { op, worker })),
         _ => Ok(Err(ScriptWhy::Word)),
     }
 }

@@ -3,7 +3,7 @@ use Rattle.std.proofs.Common.{ap}
 use Rattle.amber_log.proofs.BadLines.{fails_at_first_bad_line}
 use Rattle.amber_log.proofs.Exact.{reads_what_stands}
 use Rattle.amber_commands.specs.Course.{log_or_refusal}
-use Rattle.amber_commands.proofs.Lengths.{read-few}
+use Rattle.amber_log.proofs.ReadLengths.{read-few}
 use Rattle.amber_commands.proofs.script.read.Goals as goal
 
 pub returns-in-Ok-clause-read : goal.returns-in-Ok-clause-read

@@ -3,7 +3,7 @@ use Rattle.std.proofs.Common.{ap}
 use Rattle.amber_log.proofs.BadLines.{fails_at_first_bad_line}
 use Rattle.amber_log.proofs.Exact.{reads_what_stands}
 use Rattle.amber_course.specs.Course.{log_or_line}
-use Rattle.amber_course.proofs.Lengths.{read-few, read-text}
+use Rattle.amber_log.proofs.ReadLengths.{read-few, read-text}
 use Rattle.amber_course.proofs.log.log_of.Goals as goal
 
 pub returns-in-Ok-clause-read : goal.returns-in-Ok-clause-read

@@ -1,7 +1,7 @@
 -- From each part to the next.
 use Rattle.std.proofs.Common.{◌∷◌, [], ℕ, ap, refl, sym, ◌∙◌, arith}
 use Rattle.amber_recover.specs.Redone.{bad_in_parts}
-use Rattle.amber_recover.proofs.Lengths.{parts-few, parts-longer}
+use Rattle.amber_log.proofs.Lengths.{parts-few, parts-longer}
 use Rattle.amber_recover.proofs.PartsDone.{next-parts, none-bad, none-found, nothing-done, part-found, part-more, parts-done}
 use Rattle.amber_recover.proofs.parts.redo_parts.Goals as goal
 

@@ -4,7 +4,7 @@ use Rattle.std.specs.List.{flat_map}
 use Rattle.amber_log.specs.LogText.{item_lines}
 use Rattle.amber_lines.specs.Lines.{Between, bad_line_from}
 use Rattle.amber_home.specs.HomeState.{query_of, rest_state}
-use Rattle.amber_recover.proofs.Lengths.{items-few, items-longer}
+use Rattle.amber_log.proofs.Lengths.{items-few, items-longer}
 use Rattle.amber_recover.proofs.PartsDone.{no-some}
 use Rattle.amber_recover.proofs.Walked.{all-done, all-told, first-done, left-bad, left-first, left-more, left-none, next-done, next-open, next-rests, next-text, told-first, told-more}
 use Rattle.amber_recover.proofs.recovering.redo_items.Goals as goal
