@@ -1,3 +1,4 @@
+pub mod EachItem
 pub mod Hexadecimal
 pub mod ItemText
 pub mod Kept

@@ -39,4 +39,4 @@ mod write;
 pub use read::{LogErr, read_log};
 pub use std::alloc::AllocError as NoMemory;
 pub use whole_prefix::whole_items;
-pub use write::{write_command, write_head, write_item};
+pub use write::{write_command, write_head, write_item, write_items};

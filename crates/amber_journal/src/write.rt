@@ -1,7 +1,8 @@
 //! Writes the head of a log, and its items. Rests on `commands` and `legs`.
 
-ghost use Rattle.std.specs.Prelude.{◌≡◌, [], ◌∷◌, ◌++◌, IfOk, OnOk};
-ghost use Rattle.amber_log.specs.Grammar.{IsBatch, IsCommand, IsItem};
+ghost use Rattle.std.specs.Prelude.{◌≡◌, [], ◌∷◌, ◌++◌, IfOk, OnOk, false};
+ghost use Rattle.std.specs.List.{flat_map};
+ghost use Rattle.amber_log.specs.Grammar.{AreItems, IsBatch, IsCommand, IsItem};
 ghost use Rattle.amber_log.specs.LogText.{head_text, item_text};
 ghost use Rattle.amber_journal.specs.Written.{leg_text};
 
@@ -51,6 +52,18 @@ pub fn write_item(alloc: Global, item: &Item) -> Result<Vec<u8>, AllocError>
 {
     let mut out = Vec::new(alloc);
     push_item(alloc, &mut out, item)?;
+    Ok(out)
+}
+
+/// The lines of items, one after the other.
+pub fn write_items(alloc: Global, items: &[Item]) -> Result<Vec<u8>, AllocError>
+    requires { AreItems false items.now }
+    ensures { IfOk result (λ text. text.items ≡ flat_map item_text items.now) }
+{
+    let mut out = Vec::new(alloc);
+    for item in items {
+        push_item(alloc, &mut out, item)?;
+    }
     Ok(out)
 }
 
