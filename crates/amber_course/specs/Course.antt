@@ -10,7 +10,11 @@ use Rattle.amber_rows.specs.declared.flow.Operator.{Operator}
 use Rattle.amber_flow.specs.Workflow.{workflow_of}
 use Rattle.amber_flow.specs.declared.error.Fault.{Fault}
 use Rattle.amber_log.specs.ReadAs.{read_of}
+use Rattle.amber_log.specs.Items.{command_of, is_same_command}
+use Rattle.amber_log.specs.LogText.{item_lines}
 use Rattle.amber_log.specs.declared.command.Command.{Command}
+use Rattle.amber_log.specs.declared.command.Command.TheVariants as command
+use Rattle.amber_log.specs.declared.log.Item.{Item}
 use Rattle.amber_log.specs.declared.log.Log.{Log}
 use Rattle.amber_lines.specs.Lines.{illegal_line}
 use Rattle.amber_meaning.specs.Legal.{query_over}
@@ -20,8 +24,10 @@ use Rattle.amber_course.specs.Loaded.{Loaded}
 use Rattle.amber_course.specs.Words.{call_words_of}
 use Rattle.amber_course.specs.declared.job.Job.{Job}
 use Rattle.amber_course.specs.declared.job.Job.TheVariants as job
+use Rattle.amber_course.specs.declared.job.RecoverJob.{RecoverJob}
 use Rattle.amber_course.specs.declared.job.ReplayJob.{ReplayJob}
 use Rattle.amber_course.specs.declared.job.RunJob.{RunJob}
+use Rattle.amber_course.specs.declared.words.RecoverWords.{RecoverWords}
 use Rattle.amber_course.specs.declared.words.ReplayWords.{ReplayWords}
 use Rattle.amber_course.specs.declared.words.RunWords.{RunWords}
 use Rattle.amber_course.specs.declared.words.Words.{Words}
@@ -161,6 +167,11 @@ abbrev pub run_of : RunWords → List Command → Loaded → RunJob
 run_of words commands inputs =
     record { inputs = inputs; commands = commands; log = words.log; threads = words.threads; batch_size = words.batch_size }
 
+-- with what a recovery is to go on
+abbrev pub recover_of : RecoverWords → List Command → Loaded → Log → RecoverJob
+recover_of words commands inputs old =
+    record { inputs = inputs; commands = commands; old = old; log = words.log; threads = words.threads }
+
 -- the job that words ask for: the workflow is loaded and read; for a run its scans' files are compared with the log, and the script is
 -- loaded and read; each scan's file is loaded and its header compared
 unfoldable pub job_of : Words → Named → Result Job Failure
@@ -172,6 +183,9 @@ job_of (form.Run words) files =
 job_of (form.Replay words) files =
     then_on (run_flow words.workflow words.log files)
     (λ flow. then_on (loaded_for flow files) (λ inputs. then_on (log_in words.log files) (λ log. Ok (job.Replay (record { inputs = inputs; log = log })))))
+job_of (form.Recover words) files =
+    then_on (run_flow words.workflow words.log files)
+    (λ flow. then_on (script_in words.script flow files) (λ commands. then_on (loaded_for flow files) (λ inputs. then_on (log_in words.old_log files) (λ old. Ok (job.Recover (recover_of words commands inputs old))))))
 
 -- the illegal line of a log, which a run over these files is to have written
 abbrev pub illegal_line_in : ReplayJob → Option ℕ
@@ -181,13 +195,41 @@ abbrev pub legal_or : ReplayJob → Option ℕ → Result Job Failure
 legal_or r None = Ok (job.Replay r)
 legal_or r (Some line) = Err (failure.BadLog line why.Illegal)
 
--- the operators of a query that is printed at once give no more rows than they may, and a log that is replayed is legal
+-- what is done after the commands of a script
+abbrev pub end_alone : List Command
+end_alone = command.End ∷ []
+
+-- the line of the first of these items that was not made for the next of the commands, where their first line has this number
+unfoldable pub strange_from : ℕ → List Command → List Item → Option ℕ
+strange_from line commands [] = None
+strange_from line [] (one ∷ items) = Some line
+strange_from line (next ∷ commands) (one ∷ items) =
+    if is_same_command next (command_of one) then strange_from (line + length (item_lines one)) commands items else Some line
+
+-- the same of the items of an old log, whose commands are to be the first of those of the script and the one to run to the end
+abbrev pub strange_line_in : RecoverJob → Option ℕ
+strange_line_in r = strange_from 2 (r.commands ++ end_alone) r.old.items
+
+-- the old log of a recovery, as one that is replayed
+abbrev pub replayed_by : RecoverJob → ReplayJob
+replayed_by r = record { inputs = r.inputs; log = r.old }
+
+-- a recovery goes on unless the old log has an illegal line, or else one for another command
+abbrev pub goes_on_or : RecoverJob → Option ℕ → Option ℕ → Result Job Failure
+goes_on_or r None None = Ok (job.Recover r)
+goes_on_or r None (Some line) = Err (failure.BadLog line why.Command)
+goes_on_or r (Some line) strange = Err (failure.BadLog line why.Illegal)
+
+-- the operators of a query that is printed at once give no more rows than they may, a log that is replayed is legal, and one from which a
+-- run is recovered is legal and its commands are the script's
 abbrev pub require_limit : Job → Result Job Failure
 require_limit (job.Plain inputs) = if nat_le (row_total inputs.flow inputs.files) most_rows then Ok (job.Plain inputs) else Err failure.Long
 require_limit (job.Run run) = Ok (job.Run run)
 require_limit (job.Replay r) = legal_or r (illegal_line_in r)
+require_limit (job.Recover r) = goes_on_or r (illegal_line_in (replayed_by r)) (strange_line_in r)
 
--- the words are read; the files are loaded and read; for `plain` the rows of all operators are counted, and for `replay` the log is judged
+-- the words are read; the files are loaded and read; for `plain` the rows of all operators are counted, and for `replay` and
+-- `recover` the log is judged that was read
 unfoldable pub course_of : List (List ℕ) → Named → Result Job Failure
 course_of words files = then_on (words_read (call_words_of words)) (λ read. then_on (job_of read files) require_limit)
 
@@ -216,10 +258,16 @@ abbrev pub IsReplayFile : ReplayWords → Named → List ℕ → Type 0
 IsReplayFile words files file = (flow : List Operator) × (run_flow words.workflow words.log files ≡ Ok flow)
     × (IsScanFile flow files file ⊎ (IsOk (loaded_for flow files) × (file ≡ words.log)))
 
+-- the same and the script of a recovery, where its workflow is right, and the old log, where the script and all scans' files are right
+abbrev pub IsRecoverFile : RecoverWords → Named → List ℕ → Type 0
+IsRecoverFile words files file = (flow : List Operator) × (run_flow words.workflow words.log files ≡ Ok flow)
+    × ((file ≡ words.script) ⊎ (IsOk (script_in words.script flow files) × (IsScanFile flow files file ⊎ (IsOk (loaded_for flow files) × (file ≡ words.old_log)))))
+
 abbrev pub IsLoaded : Words → Named → List ℕ → Type 0
 IsLoaded (form.Plain workflow) files file = (file ≡ workflow) ⊎ IsScanned workflow files file
 IsLoaded (form.Run words) files file = (file ≡ words.workflow) ⊎ IsRunFile words files file
 IsLoaded (form.Replay words) files file = (file ≡ words.workflow) ⊎ IsReplayFile words files file
+IsLoaded (form.Recover words) files file = (file ≡ words.workflow) ⊎ IsRecoverFile words files file
 
 -- a file that the order of work reaches: what comes before it is there and right
 abbrev pub IsReached : List (List ℕ) → Named → List ℕ → Type 0

@@ -39,6 +39,7 @@ reason_word reason.LogName = codes "LogName"
 abbrev pub log_reason_word : LogWhy → List ℕ
 log_reason_word why.Text = codes "Text"
 log_reason_word why.Illegal = codes "Illegal"
+log_reason_word why.Command = codes "Command"
 
 -- the line that is printed after a refusal; a sink that failed gets none
 abbrev pub error_line_of : Failure → List ℕ

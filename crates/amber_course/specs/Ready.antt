@@ -6,10 +6,11 @@ use Rattle.amber_log.specs.Fits.{fits_of}
 use Rattle.amber_log.specs.Grammar.{IsLog}
 use Rattle.amber_log.specs.LogText.{item_lines}
 use Rattle.amber_log.specs.declared.command.Command.{Command}
-use Rattle.amber_course.specs.Words.{AreSizes}
+use Rattle.amber_course.specs.Words.{AreSizes, AreThreads}
 use Rattle.amber_script.specs.Commands.{is_scripted}
 use Rattle.amber_course.specs.declared.job.Job.{Job}
 use Rattle.amber_course.specs.declared.job.Job.TheVariants as job
+use Rattle.amber_course.specs.declared.job.RecoverJob.{RecoverJob}
 use Rattle.amber_course.specs.declared.job.ReplayJob.{ReplayJob}
 use Rattle.amber_course.specs.declared.job.RunJob.{RunJob}
 use Rattle.amber_course.specs.declared.words.Words.{Words}
@@ -30,19 +31,29 @@ pub record IsReplayReady (r : ReplayJob) : Type 0 where
   pub text : IsLog r.log
   pub few : length (flat_map item_lines r.log.items) < 2 ^ 32
 
+-- the threads are in their range, the commands fit the workflow, and the old log has a text, of fewer lines than 2^32
+pub record IsRecoverReady (r : RecoverJob) : Type 0 where
+  pub threads : AreThreads r.threads
+  pub commands : AreOfScript r.inputs.flow r.commands
+  pub text : IsLog r.old
+  pub few : length (flat_map item_lines r.old.items) < 2 ^ 32
+
 abbrev pub IsReady : Job → Type 0
 IsReady (job.Plain inputs) = ⊤
 IsReady (job.Run run) = IsRunReady run
 IsReady (job.Replay r) = IsReplayReady r
+IsReady (job.Recover r) = IsRecoverReady r
 
 -- a job that writes no file
 abbrev pub WritesNothing : Job → Type 0
 WritesNothing (job.Plain inputs) = ⊤
 WritesNothing (job.Run run) = ⊥
 WritesNothing (job.Replay r) = ⊤
+WritesNothing (job.Recover r) = ⊥
 
 -- words that ask for no run have a job that writes no file
 abbrev pub IsAskedBy : Words → Job → Type 0
 IsAskedBy (form.Plain workflow) job = WritesNothing job
 IsAskedBy (form.Run words) job = ⊤
 IsAskedBy (form.Replay words) job = WritesNothing job
+IsAskedBy (form.Recover words) job = ⊤

@@ -30,14 +30,26 @@ run_words workflow script log (Some threads) (Some batch_size) =
 abbrev pub replay_words : List ℕ → List ℕ → Option Words
 replay_words workflow log = if bytes_eq log workflow then None else Some (form.Replay (record { workflow = workflow; log = log }))
 
--- the words are `plain` and the name of a workflow, `replay` and the names of a workflow and a log, or `run` and the names of a workflow, a
--- script and a log and two numbers
+-- the words of a recovery, whose log is none of its other files
+abbrev pub recover_words : List ℕ → List ℕ → List ℕ → List ℕ → Option ℕ → Option Words
+recover_words workflow script old_log log None = None
+recover_words workflow script old_log log (Some threads) =
+    if bytes_eq log workflow || (bytes_eq log script || bytes_eq log old_log) then None
+    else Some (form.Recover (record { workflow = workflow; script = script; old_log = old_log; log = log; threads = threads }))
+
+-- the words are `plain` and the name of a workflow, `replay` and the names of a workflow and a log, `run` and the names of a workflow, a
+-- script and a log and two numbers, or `recover` and the names of a workflow, a script, an old log and a log and a number
 unfoldable pub call_words_of : List (List ℕ) → Option Words
 call_words_of (word ∷ workflow ∷ []) = if bytes_eq word (codes "plain") then Some (form.Plain workflow) else None
 call_words_of (word ∷ workflow ∷ log ∷ []) = if bytes_eq word (codes "replay") then replay_words workflow log else None
-call_words_of (word ∷ workflow ∷ script ∷ log ∷ threads ∷ batch_size ∷ []) =
-    if bytes_eq word (codes "run") then run_words workflow script log (number_up_to most_threads threads) (number_up_to most_batch batch_size) else None
+call_words_of (word ∷ workflow ∷ script ∷ third ∷ fourth ∷ last ∷ []) =
+    if bytes_eq word (codes "run") then run_words workflow script third (number_up_to most_threads fourth) (number_up_to most_batch last)
+    else if bytes_eq word (codes "recover") then recover_words workflow script third fourth (number_up_to most_threads last) else None
 call_words_of others = None
+
+-- the number of threads is in its range
+abbrev pub AreThreads : ℕ → Type 0
+AreThreads threads = (0 < threads) × (threads ≤ most_threads)
 
 -- the numbers of a run are in their ranges
 pub record AreSizes (threads batch_size : ℕ) : Type 0 where
@@ -50,3 +62,4 @@ abbrev pub AreSound : Words → Type 0
 AreSound (form.Plain workflow) = ⊤
 AreSound (form.Run words) = AreSizes words.threads words.batch_size
 AreSound (form.Replay words) = ⊤
+AreSound (form.Recover words) = AreThreads words.threads

@@ -29,6 +29,8 @@ pub enum LogWhy {
     Text,
     /// The line may not stand there in a log of this workflow over these files.
     Illegal,
+    /// The line begins an item for another command than the script's next.
+    Command,
 }
 
 /// Why a call ended early, with what its error line says.
@@ -100,6 +102,7 @@ impl LogWhy {
         match self {
             LogWhy::Text => "Text",
             LogWhy::Illegal => "Illegal",
+            LogWhy::Command => "Command",
         }
     }
 }

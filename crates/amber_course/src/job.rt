@@ -24,6 +24,18 @@ pub struct ReplayJob {
     pub log: Log,
 }
 
+/// With what a recovery is to go on: the workflow over the files of its scans, by the commands of a script from that on
+/// which is the first behind an old log, which is to be judged; with what was done, the old log's items among it, written
+/// into the log of this name; on `threads` threads, from 1 to 64.
+#[derive(Drop)]
+pub struct RecoverJob {
+    pub inputs: Inputs,
+    pub commands: Commands,
+    pub old: Log,
+    pub log: Text,
+    pub threads: u32,
+}
+
 /// What a call is to do, once nothing is left that refuses it.
 #[derive(Drop)]
 pub enum Job {
@@ -33,4 +45,6 @@ pub enum Job {
     Run(RunJob),
     /// To print the transcript that a log tells.
     Replay(ReplayJob),
+    /// To go on with a run from its log.
+    Recover(RecoverJob),
 }

@@ -8,16 +8,16 @@ ghost use Rattle.amber_io.specs.World.{LoadsOnly};
 ghost use Rattle.amber_course.specs.Ready.{IsAskedBy, WritesNothing, IsReady};
 ghost use Rattle.amber_course.specs.Course.{IsLoaded, job_of};
 ghost use Rattle.amber_course.specs.Steps.{Follows, Names};
-ghost use Rattle.amber_course.specs.Words.{AreSizes, AreSound};
+ghost use Rattle.amber_course.specs.Words.{AreSizes, AreSound, AreThreads};
 
 use crate::failure::Failure;
-use crate::job::{Job, ReplayJob, RunJob};
+use crate::job::{Job, RecoverJob, ReplayJob, RunJob};
 use crate::loading::load_flow;
 use crate::log::load_log;
 use crate::log_name::load_run_flow;
 use crate::scans::load_scans;
 use crate::script::load_script;
-use crate::words::{ReplayWords, RunWords, Words};
+use crate::words::{RecoverWords, ReplayWords, RunWords, Words};
 use amber_io::Outside;
 use std::alloc::Global;
 
@@ -90,6 +90,41 @@ fn prepare_replay<W: Outside>(
     Ok(Job::Replay(ReplayJob { inputs, log }))
 }
 
+// To go on with a run from its log.
+fn prepare_recover<W: Outside>(
+    alloc: Global,
+    words: RecoverWords,
+    outside: &mut W,
+) -> Result<Job, Failure>
+    requires { AreThreads words.threads }
+    ensures course { Follows result (job_of (Words.Recover words)) (W.world outside.old)
+        (W.world outside.new) }
+    ensures ready { IfOk result IsReady }
+    ensures named { Told (W.world outside.old).files
+        (λ files. IfErr result (λ failure. Names failure (IsLoaded (Words.Recover words) files))) }
+    ensures only { LoadsOnly (W.world outside.old) (W.world outside.new) }
+    ensures held { W.held outside.new ≡ W.held outside.old }
+{
+    let RecoverWords {
+        workflow,
+        script,
+        old_log,
+        log,
+        threads,
+    } = words;
+    let flow = load_run_flow(alloc, workflow.get(), log.get(), outside)?;
+    let commands = load_script(alloc, script.get(), &flow, outside)?;
+    let inputs = load_scans(alloc, flow, outside)?;
+    let old = load_log(alloc, old_log.get(), outside)?;
+    Ok(Job::Recover(RecoverJob {
+        inputs,
+        commands,
+        old,
+        log,
+        threads,
+    }))
+}
+
 /// The job that words ask for, with all that is to be loaded and read for it.
 pub fn prepare<W: Outside>(alloc: Global, words: Words, outside: &mut W) -> Result<Job, Failure>
     requires { AreSound words }
@@ -106,5 +141,6 @@ pub fn prepare<W: Outside>(alloc: Global, words: Words, outside: &mut W) -> Resu
         Words::Plain { workflow } => prepare_plain(alloc, workflow.get(), outside),
         Words::Run(words) => prepare_run(alloc, words, outside),
         Words::Replay(words) => prepare_replay(alloc, words, outside),
+        Words::Recover(words) => prepare_recover(alloc, words, outside),
     }
 }

@@ -4,7 +4,7 @@
 ghost use Rattle.std.specs.Prelude.{◌≡◌, ◌<◌, ◌≤◌, map, string_bytes, IfOk, IfSome, Some};
 ghost use Rattle.amber_course.specs.Steps.{AreRead};
 ghost use Rattle.amber_script.specs.Numbers.{number_up_to};
-ghost use Rattle.amber_course.specs.Words.{AreSizes, AreSound, call_words_of, replay_words, run_words, sizes_of};
+ghost use Rattle.amber_course.specs.Words.{AreSizes, AreSound, call_words_of, recover_words, replay_words, run_words, sizes_of};
 
 use crate::failure::Failure;
 use amber_rows::Text;
@@ -35,6 +35,17 @@ pub struct ReplayWords {
     pub log: Text,
 }
 
+/// The words of a recovery: the names of its workflow, its script, the log from which it goes on and the log that it
+/// writes, and on how many threads it works, from 1 to 64.
+#[derive(Drop)]
+pub struct RecoverWords {
+    pub workflow: Text,
+    pub script: Text,
+    pub old_log: Text,
+    pub log: Text,
+    pub threads: u32,
+}
+
 /// What the words of a call ask for.
 #[derive(Drop)]
 pub enum Words {
@@ -44,6 +55,8 @@ pub enum Words {
     Run(RunWords),
     /// To print the transcript that a log tells.
     Replay(ReplayWords),
+    /// To go on with a run from its log, and to write it anew.
+    Recover(RecoverWords),
 }
 
 // The words after `plain`.
@@ -119,6 +132,35 @@ fn read_replay(alloc: Global, workflow: &str, log: &str) -> Result<Words, Failur
     }))
 }
 
+// The words after `recover`.
+fn read_recover(
+    alloc: Global,
+    workflow: &str,
+    script: &str,
+    old_log: &str,
+    log: &str,
+    threads: &str,
+) -> Result<Words, Failure>
+    ensures read { AreRead result
+        (recover_words workflow.now script.now old_log.now log.now
+        (number_up_to 64 threads.now)) }
+    ensures sound { IfOk result AreSound }
+{
+    let Some(threads) = read_number(threads, MOST_THREADS) else {
+        return Err(Failure::Usage);
+    };
+    if log == workflow || log == script || log == old_log {
+        return Err(Failure::Usage);
+    }
+    Ok(Words::Recover(RecoverWords {
+        workflow: Text::new(alloc, workflow)?,
+        script: Text::new(alloc, script)?,
+        old_log: Text::new(alloc, old_log)?,
+        log: Text::new(alloc, log)?,
+        threads: threads as u32,
+    }))
+}
+
 /// Reads the words after the program's name.
 #[tactic(auto, unfolding(crate::specs::Words::call_words_of))]
 pub fn read_words(alloc: Global, words: &[String]) -> Result<Words, Failure>
@@ -138,6 +180,16 @@ pub fn read_words(alloc: Global, words: &[String]) -> Result<Words, Failure>
             threads.as_str(),
             batch_size.as_str(),
         ),
+        [form, workflow, script, old_log, log, threads] if form.as_str() == "recover" => {
+            read_recover(
+                alloc,
+                workflow.as_str(),
+                script.as_str(),
+                old_log.as_str(),
+                log.as_str(),
+                threads.as_str(),
+            )
+        }
         _ => Err(Failure::Usage),
     }
 }
