@@ -1,6 +1,8 @@
 -- The words are two that begin with `plain`, or six that begin with `run` or `recover`; others are none.
-use Rattle.std.proofs.Common.{◌≡◌, ℕ, ◌<◌, ◌≤◌, List, [], ◌∷◌, length, get_or, None, false, refl, sym, ◌∙◌, arith, rules}
+use Rattle.std.proofs.Common.{◌≡◌, ℕ, ◌<◌, ◌≤◌, List, [], ◌∷◌, length, map, get_or, None, false, refl, sym, ◌∙◌, arith, rules}
 use Rattle.std.specs.Prelude.{bytes_eq, codes, string_bytes}
+use Rattle.std.proofs.lemmas.Grind.{common_steps}
+use Rattle.std.proofs.lemmas.List.{length-map}
 use Rattle.amber_course.specs.Words.{call_words_of}
 use Rattle.amber_course.proofs.words.read_words.Goals as goal
 use Rattle.amber_course.proofs.words.read_words.Goals.{in_default-via-then-words-lt2, in_default-via-in-len2+else-eq, in_default-via-in-len3+else-eq-2, in_default-via-else-words-lt2+else-words-lt3+else-words-lt4+then-words-lt6, in_default-via-in-len6-2+else-eq-4, in_default-via-else-words-lt2+else-words-lt3+else-words-lt4+else-words-lt6+else-words-lt7}
@@ -50,13 +52,24 @@ other_six : (word workflow script third fourth last : List ℕ) → bytes_eq wor
 unfolding call_words_of
 other_six word workflow script third fourth last run recover = rw (run, recover) refl
 
+many_words : (words : List (List ℕ)) → 7 ≤ length words → call_words_of words ≡ None
+unfolding call_words_of
+many_words [] many = absurd (omega (arith, many))
+many_words (a ∷ []) many = absurd (omega (arith, many))
+many_words (a ∷ b ∷ []) many = absurd (omega (arith, many))
+many_words (a ∷ b ∷ c ∷ []) many = absurd (omega (arith, many))
+many_words (a ∷ b ∷ c ∷ d ∷ []) many = absurd (omega (arith, many))
+many_words (a ∷ b ∷ c ∷ d ∷ e ∷ []) many = absurd (omega (arith, many))
+many_words (a ∷ b ∷ c ∷ d ∷ e ∷ f ∷ []) many = absurd (omega (arith, many))
+many_words (a ∷ b ∷ c ∷ d ∷ e ∷ f ∷ g ∷ more) many = refl
+
 pub returns-in_default-clause-read : goal.returns-in_default-clause-read
 unfolding call_words_of
 returns-in_default-clause-read c = elim c.in_default.branch [
-  | in_default-via-then-words-lt2 w ↦ search rules
-  | in_default-via-in-len2+else-eq w ↦ search rules
-  | in_default-via-in-len3+else-eq-2 w ↦ search rules
-  | in_default-via-else-words-lt2+else-words-lt3+else-words-lt4+then-words-lt6 w ↦ search rules
+  | in_default-via-then-words-lt2 w ↦ grind (arith, common_steps)
+  | in_default-via-in-len2+else-eq w ↦ grind (arith, common_steps)
+  | in_default-via-in-len3+else-eq-2 w ↦ grind (arith, common_steps)
+  | in_default-via-else-words-lt2+else-words-lt3+else-words-lt4+then-words-lt6 w ↦ grind (arith, common_steps)
   | in_default-via-in-len6-2+else-eq-4 w ↦
       let some : 0 < length c.args.words.now = omega (arith, w.in-len6.len_at_least) in
       let same = first_is c.args.words.now w.form-item-then-words-lt7.result w.form-item-then-words-lt7-2.result some w.form-item-then-words-lt7.is w.form-item-then-words-lt7-2.is in
@@ -67,5 +80,7 @@ returns-in_default-clause-read c = elim c.in_default.branch [
       let recover : bytes_eq (string_bytes w.form-item-then-words-lt7-2.result) (codes "recover") ≡ false = rw (← w.as_str-then-words-lt7-2.ensures.value) (sym w.if-eq-4.ensures) in
       rw is (other_six (string_bytes w.form-item-then-words-lt7-2.result) (string_bytes w.workflow-item-then-words-lt7-2.result) (string_bytes w.script-item-then-words-lt7.result)
       (string_bytes w.old_log-item.result) (string_bytes w.log-item-then-words-lt7-2.result) (string_bytes w.threads-item-then-words-lt7.result) run recover)
-  | in_default-via-else-words-lt2+else-words-lt3+else-words-lt4+else-words-lt6+else-words-lt7 w ↦ search rules
+  | in_default-via-else-words-lt2+else-words-lt3+else-words-lt4+else-words-lt6+else-words-lt7 w ↦ 
+      let many : 7 ≤ length c.args.words.now = search rules in
+      many_words (map string_bytes c.args.words.now) (rw (length-map c.args.words.now string_bytes) many)
 ]
