@@ -2,3 +2,4 @@ pub mod Following
 pub mod Lines
 pub mod Scanning
 pub mod LogScans
+pub mod Commanded

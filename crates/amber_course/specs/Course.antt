@@ -199,6 +199,11 @@ legal_or r (Some line) = Err (failure.BadLog line why.Illegal)
 abbrev pub end_alone : List Command
 end_alone = command.End ∷ []
 
+-- whether an item was made for the first of these commands
+abbrev pub is_for_first : List Command → Item → Bool
+is_for_first [] one = false
+is_for_first (next ∷ commands) one = is_same_command next (command_of one)
+
 -- the line of the first of these items that was not made for the next of the commands, where their first line has this number
 unfoldable pub strange_from : ℕ → List Command → List Item → Option ℕ
 strange_from line commands [] = None
