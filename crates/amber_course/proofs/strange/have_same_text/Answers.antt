@@ -1,7 +1,6 @@
 -- The texts are those of the lines by which the commands' items begin.
-use Rattle.std.proofs.Common.{◌≡◌, sym, ◌∙◌, rules}
+use Rattle.std.proofs.Common.{◌≡◌, ◌∙◌}
 use Rattle.std.specs.Prelude.{bytes_eq}
-use Rattle.amber_log.specs.Items.{is_same_command}
 use Rattle.amber_course.proofs.Commanded.{same-text}
 use Rattle.amber_course.proofs.strange.have_same_text.Goals as goal
 

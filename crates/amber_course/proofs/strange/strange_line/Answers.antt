@@ -1,5 +1,5 @@
 -- From each item to the next.
-use Rattle.std.proofs.Common.{◌≡◌, ◌+◌, ◌++◌, None, ap, ◌∙◌, sym, arith, drop, false, length, rules, true}
+use Rattle.std.proofs.Common.{◌≡◌, ◌+◌, ◌++◌, None, ap, ◌∙◌, sym, arith, drop, false, length, true}
 use Rattle.amber_log.proofs.Lengths.{items-few, items-longer}
 use Rattle.amber_log.specs.LogText.{item_lines}
 use Rattle.amber_log.specs.declared.log.Item.{Item}

@@ -74,13 +74,13 @@ returns-in_default-clause-read c = elim c.in_default.branch [
       let some : 0 < length c.args.words.now = omega (arith, w.in-len6.len_at_least) in
       let same = first_is c.args.words.now w.form-item-then-words-lt7.result w.form-item-then-words-lt7-2.result some w.form-item-then-words-lt7.is w.form-item-then-words-lt7-2.is in
       let is = six_of c.args.words.now w.form-item-then-words-lt7-2.result w.workflow-item-then-words-lt7-2.result w.script-item-then-words-lt7.result w.old_log-item.result w.log-item-then-words-lt7-2.result
-          w.threads-item-then-words-lt7.result w.in-len6.len_at_least w.in-len6.len_below w.form-item-then-words-lt7-2.is w.workflow-item-then-words-lt7-2.is w.script-item-then-words-lt7.is w.old_log-item.is
-          w.log-item-then-words-lt7-2.is w.threads-item-then-words-lt7.is in
+      w.threads-item-then-words-lt7.result w.in-len6.len_at_least w.in-len6.len_below w.form-item-then-words-lt7-2.is w.workflow-item-then-words-lt7-2.is w.script-item-then-words-lt7.is w.old_log-item.is
+      w.log-item-then-words-lt7-2.is w.threads-item-then-words-lt7.is in
       let run : bytes_eq (string_bytes w.form-item-then-words-lt7-2.result) (codes "run") ≡ false = rw (← same, ← w.as_str-then-words-lt7.ensures.value) (sym w.if-eq-3.ensures) in
       let recover : bytes_eq (string_bytes w.form-item-then-words-lt7-2.result) (codes "recover") ≡ false = rw (← w.as_str-then-words-lt7-2.ensures.value) (sym w.if-eq-4.ensures) in
       rw is (other_six (string_bytes w.form-item-then-words-lt7-2.result) (string_bytes w.workflow-item-then-words-lt7-2.result) (string_bytes w.script-item-then-words-lt7.result)
       (string_bytes w.old_log-item.result) (string_bytes w.log-item-then-words-lt7-2.result) (string_bytes w.threads-item-then-words-lt7.result) run recover)
-  | in_default-via-else-words-lt2+else-words-lt3+else-words-lt4+else-words-lt6+else-words-lt7 w ↦ 
+  | in_default-via-else-words-lt2+else-words-lt3+else-words-lt4+else-words-lt6+else-words-lt7 w ↦
       let many : 7 ≤ length c.args.words.now = search rules in
       many_words (map string_bytes c.args.words.now) (rw (length-map c.args.words.now string_bytes) many)
 ]
