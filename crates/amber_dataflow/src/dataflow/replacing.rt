@@ -1,7 +1,8 @@
-//! A worker that takes the place of another. Over `replace_with` of `amber_worker`.
+//! A worker that takes the place of another, and one that is taken out. Over `replace_with` of `amber_worker`.
 
 ghost use Rattle.std.specs.Prelude.{None, [], ◌<◌, ◌≡◌};
 ghost use Rattle.amber_rows.specs.Topology.{crew_of};
+ghost use Rattle.amber_dataflow.specs.AtWork.{worker_state_at};
 ghost use Rattle.amber_dataflow.specs.Dataflow.{AreAllThere, HaveDoneNothing, seat_of};
 ghost use Rattle.amber_dataflow.specs.Replacing.{MayReplace, StandReplaced, worker_replaced};
 
@@ -23,5 +24,16 @@ impl Dataflow {
         ensures stand { StandReplaced worker made self.old self.new }
     {
         self.workers[worker as usize].replace_with(made);
+    }
+
+    /// Takes a worker out. The others are let go.
+    pub fn into_worker(self, worker: u32) -> Worker
+        requires workers { AreAllThere self }
+        requires there { worker < crew_of self.flow }
+        ensures { result ≡ worker_state_at self.workers worker }
+    {
+        let Dataflow { flow: _, workers } = self;
+        let mut workers = workers;
+        workers.swap_remove(worker as usize)
     }
 }
