@@ -110,6 +110,7 @@ home-closed e live to_end counts leg not closed log later kept closes log-is lat
     subst (λ boards. IsHome (record e { log = log; phase = phase.Resting; parts = [] }) (record live { dataflow = handed_out d; arms = later; boards = boards; stops = kept })) (sym stand.1.none)
     (subst (λ (l : Log). IsHome (record e { log = l; phase = phase.Resting; parts = [] }) (record live { dataflow = handed_out d; arms = later; boards = []; stops = kept })) (sym log-is) (record {
       few = leg.few;
+      headed = leg.headed;
       legal = (legal-closed to_end e d live.arms leg.leg leg.legal closed may).0;
       stands = rest-closed to_end e d live.arms leg.leg leg.legal closed may later kept live.back
           (rw later-is (in-force-closed (query_of e) begin d leg.leg.positions leg.leg.at live.arms leg.leg.in_force to_end closed))

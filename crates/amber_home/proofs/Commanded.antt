@@ -377,6 +377,7 @@ module _ (e : HomeState) (live : LiveState) (home : IsHome e live) (resting : e.
           legal_logs_have_one_state query (with_item e.log (item.Do one)) (flows_send_forward e.flow flow) grown.0 ∙ grown.1 in
           subst (λ (h : HomeState). IsHome h now) (sym state-commanded) (record {
             few = home.few;
+            headed = home.headed;
             legal = grown.0;
             stands = subst (λ (p : Phase). StandsIn p (record e { log = with_item e.log (item.Do one); parts = [] }) now) (sym resting) (record {
               at = rw (here, dataflow-is)

@@ -173,7 +173,7 @@ turned-goes now within live later on all = turned-stays now within live later (o
 
 -- a home stays one, for however many turns its workers are said to have been driven
 pub home-driven : {e : HomeState} {live : LiveState} (turned : List ℕ) → IsHome e live → IsHome (record e { turned = turned }) live
-home-driven {e} {live} turned home = record { few = home.few; legal = home.legal; stands = by e.phase home.stands }
+home-driven {e} {live} turned home = record { few = home.few; headed = home.headed; legal = home.legal; stands = by e.phase home.stands }
   where
     by : (now : Phase) → StandsIn now e live → StandsIn now (record e { turned = turned }) live
     by phase.Resting rest = record { at = rest.at; none = rest.none; in_force = rest.in_force; below = rest.below; units = rest.units; stops_are = rest.stops_are }

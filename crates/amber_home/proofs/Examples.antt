@@ -4,7 +4,7 @@ use Rattle.std.proofs.Common.{◌≡◌, ◌≢◌, ◌⊎◌, ℕ, zero, suc, �
 use Rattle.std.proofs.lemmas.Bool.{ne_eqb}
 use Rattle.std.specs.Str.{chars, is_utf8}
 use Rattle.amber_rows.specs.Number.{read_int_of}
-use Rattle.amber_rows.specs.Record.{cells_of, file_records, row_of, typed_records}
+use Rattle.amber_rows.specs.Record.{cells_of, file_records, has_header, row_of, typed_records}
 use Rattle.amber_rows.specs.declared.value.Value.TheVariants as value
 use Rattle.amber_rows.specs.declared.flow.Operator.{Operator}
 use Rattle.amber_log.specs.Grammar.{AreItems}
@@ -17,7 +17,7 @@ use Rattle.amber_log.specs.declared.log.Item.TheVariants as item
 use Rattle.amber_lines.specs.KeptStops.{kept_stops, stops_along}
 use Rattle.amber_meaning.specs.declared.view.Stop.TheVariants as stop
 use Rattle.amber_meaning.specs.Legal.{IsLegal, Reaches, entries_of}
-use Rattle.amber_meaning.specs.Plain.{records_of}
+use Rattle.amber_meaning.specs.Plain.{records_of, scan_count, wrong_header}
 use Rattle.amber_meaning.specs.Position.{origin}
 use Rattle.amber_meaning.specs.Replay.{after_items, state_after}
 use Rattle.amber_meaning.specs.State.{start_of}
@@ -30,7 +30,7 @@ use Rattle.amber_home.specs.Asked.{Asked, no_asked}
 use Rattle.amber_home.specs.HomeState.{HandsOut, HomeState, IsAsFar, IsHeldNext, IsLeftAlone, NextMakesStep, StepsOn, first_unfinished, next_worker, query_of, state_of}
 use Rattle.amber_dataflow.specs.Dataflow.{DataflowState}
 use Rattle.amber_dataflow.proofs.Standing.{stand-there}
-use Rattle.amber_home.specs.Kept.{IsHome, LiveState}
+use Rattle.amber_home.specs.Kept.{AreHeaded, IsHome, LiveState}
 use Rattle.amber_home.specs.declared.phase.Counts.TheVariants.{Unarmed}
 use Rattle.amber_home.specs.declared.phase.Phase.{Phase}
 use Rattle.amber_home.specs.declared.phase.Phase.TheVariants as phase
@@ -143,8 +143,13 @@ nothing_done_is_legal = record { text = record { batch = (omega arith, omega ari
 abbrev nobody : List Operator → LiveState
 nobody flow = record { dataflow = record { flow = flow; workers = [] }; arms = []; boards = []; stops = []; back = [] }
 
+-- the file begins with the name of the column
+column_is_named : AreHeaded from_two (file ∷ [])
+unfolding homes_on_literals wrong_header scan_count has_header
+column_is_named = record { one_each = refl; headers = refl }
+
 nothing_is_said_of_workers : IsHome (home [] phase.Spent []) (nobody [])
-nothing_is_said_of_workers = record { few = omega arith; legal = nothing_done_is_legal; stands = tt }
+nothing_is_said_of_workers = record { few = omega arith; headed = column_is_named; legal = nothing_done_is_legal; stands = tt }
 
 too_many_steps : IsHome (record (home [] phase.Spent []) { most = 2 ^ 40 + 1 }) (nobody []) → ⊥
 too_many_steps keeps = let wrong = keeps.few in absurd (omega arith)

@@ -18,7 +18,7 @@ use Rattle.amber_dataflow.proofs.Standing.{stand-at}
 use Rattle.amber_boards.specs.Boards.{CounterState, IsBelow, target_at}
 use Rattle.amber_worker.specs.WorkerState.{WorkerState}
 use Rattle.amber_home.specs.Asked.{Asked, first_asked, no_asked}
-use Rattle.amber_home.specs.Kept.{IsHome}
+use Rattle.amber_home.specs.Kept.{AreHeaded, IsHome}
 use Rattle.amber_home.specs.Leg.{counts_asked}
 use Rattle.amber_home.specs.declared.phase.Phase.TheVariants as phase
 use Rattle.amber_home.proofs.InForce.{in-force-first}
@@ -43,17 +43,18 @@ unfolding AreItems Reaches
 fresh-legal query some few = record { text = record { batch = (some, few); items = tt }; batch = refl; after = start_of query.flow; reached = refl }
 
 pub home-new : (flow : List Operator) (files : List (List ℕ)) (most batch : ℕ) (items : List Item) (d : DataflowState) (arms : List Asked) (boards : List (Option CounterState)) (stops : List Stop) (back : List WorkerState)
-    → most ≤ 2 ^ 40 → 0 < batch → batch ≤ 65536 → items ≡ [] → arms ≡ first_asked flow → boards ≡ [] → stops ≡ []
+    → most ≤ 2 ^ 40 → AreHeaded flow files → 0 < batch → batch ≤ 65536 → items ≡ [] → arms ≡ first_asked flow → boards ≡ [] → stops ≡ []
     → StandAt (query_over flow files batch most) (start_of flow) d (λ _. origin) → HaveDoneNothing d → ((worker : ℕ) → seat_of d worker ≡ None)
     → IsHome (record { flow = flow; files = files; most = most; log = record { batch = batch; items = items }; phase = phase.Resting; parts = []; alone = 0; turned = turned_by d.workers })
     (record { dataflow = d; arms = arms; boards = boards; stops = stops; back = back })
 unfolding state_after after_items kept_stops stops_along
-home-new flow files most batch items d arms boards stops back few some small fresh arms-are no_boards none stand nothing unarmed =
+home-new flow files most batch items d arms boards stops back few headed some small fresh arms-are no_boards none stand nothing unarmed =
     let query = query_over flow files batch most in
     subst (λ xs. IsHome (record { flow = flow; files = files; most = most; log = record { batch = batch; items = xs }; phase = phase.Resting; parts = []; alone = 0; turned = turned_by d.workers })
     (record { dataflow = d; arms = arms; boards = boards; stops = stops; back = back })) (sym fresh)
     (record {
       few = few;
+      headed = headed;
       legal = fresh-legal query some small;
       stands = record {
         at = stand-at query (start_of flow) d (λ _. origin) stand (position_at (start_of flow).positions) (λ worker inside. start-position flow worker);

@@ -13,7 +13,7 @@ use Rattle.amber_home.specs.Asked.{Asked, without_asked}
 use Rattle.amber_home.specs.Going.{GoOn}
 use Rattle.amber_home.specs.Leg.{counts_asked}
 use Rattle.amber_home.specs.HomeState.{HomeState, counts_in, has_crew, is_open, query_of, rest_state, runs_to_end, state_of}
-use Rattle.amber_home.specs.Kept.{CountsStand, HaveNoUnits, IsAtRest, IsHome, IsWithinLeg, LiveState, StandsIn}
+use Rattle.amber_home.specs.Kept.{AreHeaded, CountsStand, HaveNoUnits, IsAtRest, IsHome, IsWithinLeg, LiveState, StandsIn}
 use Rattle.amber_home.specs.Parts.{open_parts}
 use Rattle.amber_home.specs.declared.phase.Counts.{Counts}
 use Rattle.amber_home.specs.declared.phase.Counts.TheVariants.{Armed, Disarmed, Unarmed}
@@ -74,6 +74,7 @@ module _ (e : HomeState) (live : LiveState) (to_end : Bool) (home : IsHome e liv
       (let rest = at-rest e live home resting in
       record {
         few = home.few;
+        headed = home.headed;
         legal = home.legal;
         stands = (
           opened e live rest home.legal to_end more now now-is (leg_parts (leg_begun to_end live.dataflow)),
@@ -122,6 +123,7 @@ module _ (e : HomeState) (live : LiveState) where
 -- what is known of it
 pub record IsLeg (e : HomeState) (live : LiveState) (to_end : Bool) (counts : Counts) : Type 0 where
   pub few : e.most ≤ 2 ^ 40
+  pub headed : AreHeaded e.flow e.files
   pub legal : IsLegal (query_of e) e.log
   pub leg : IsWithinLeg to_end e live.dataflow live.arms
   pub stand : CountsStand counts live.arms live.boards live.dataflow
@@ -143,6 +145,7 @@ leg-of e live (phase.Open to_end counts) home within =
     let leg = home.stands.0 in
     record {
       few = home.few;
+      headed = home.headed;
       legal = home.legal;
       leg = record { more = leg.more; positions = leg.positions; at = leg.at; in_force = leg.in_force; few = leg.few };
       stand = home.stands.1;
@@ -162,6 +165,7 @@ home-with e live to_end counts flow alone same leg =
     subst (λ (f : List Operator). IsHome (record e { flow = f; phase = phase.Open to_end counts; parts = leg_parts live.dataflow; alone = alone }) live) (sym same)
     (record {
       few = leg.few;
+      headed = leg.headed;
       legal = leg.legal;
       stands = (within-as to_end e live.dataflow live.arms (phase.Open to_end counts) (leg_parts live.dataflow) alone leg.leg, leg.stand);
     })
@@ -176,6 +180,7 @@ pub leg-on : (e : HomeState) (live : LiveState) (to_end : Bool) (counts later : 
     → IsLeg e (record live { dataflow = after; boards = boards }) to_end later
 leg-on e live to_end counts later leg after boards on few stand = record {
   few = leg.few;
+  headed = leg.headed;
   legal = leg.legal;
   leg = within-on to_end e live.dataflow after live.arms leg.leg on few;
   stand = stand;

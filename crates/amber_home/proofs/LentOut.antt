@@ -95,6 +95,7 @@ module _ (e : HomeState) (live : LiveState) where
       let leg = leg-of e live now home within in
       record {
         few = leg.few;
+        headed = leg.headed;
         legal = leg.legal;
         stands = record {
           more = leg.leg.more;
@@ -155,6 +156,7 @@ module _ (e : HomeState) (live : LiveState) where
       let are = lent.workers in
       record {
         few = home.few;
+        headed = home.headed;
         legal = home.legal;
         stands = record {
           away = record { more = home.stands.more; in_force = home.stands.in_force };
@@ -228,6 +230,7 @@ module _ (e : HomeState) (live : LiveState) where
       pub leg-settled : IsLeg e settled_live (runs_to_end now) Armed
       leg-settled = record {
         few = home.few;
+        headed = home.headed;
         legal = home.legal;
         leg = record {
           more = are.away.more;

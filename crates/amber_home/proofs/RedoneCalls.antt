@@ -117,7 +117,7 @@ module _ (i : Inside) (home : IsHome (seen i) (kept i)) (old : HomeState) (empty
     module _ (new : List WorkerState) (hand : ℕ) (done : MakesPart part_here i.back.items new hand) where
       pub home-more : IsHome (record (seen i) { phase = phase.Redoing to_end (empty && (hand == 0)); parts = parts_from 0 new; turned = turned_by new }) (record (kept i) { back = new })
       home-more =
-          home-redoing (seen i) (record (kept i) { back = new }) to_end (empty && (hand == 0)) i.dataflow.flow (turned_by new) refl home.few home.legal
+          home-redoing (seen i) (record (kept i) { back = new }) to_end (empty && (hand == 0)) i.dataflow.flow (turned_by new) refl home.few home.headed home.legal
           (redoes-more (seen i) (kept i) to_end empty re home.legal worker entries inside text new hand done)
 
       more-parts : parts_from 0 new ≡ old.parts ++ part_of worker entries ∷ []

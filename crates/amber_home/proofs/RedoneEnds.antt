@@ -29,7 +29,7 @@ use Rattle.amber_boards.specs.Boards.{AreEmptyHanded, AreUnarmed, AreWithinTarge
 use Rattle.amber_boards.specs.declared.target.Target.{Target}
 use Rattle.amber_home.specs.Asked.{Asked, IsCountOf, emitted_of}
 use Rattle.amber_home.specs.HomeState.{ClosesIn, HomeState, item_of_leg, leg_state, query_of, rest_state, state_of, with_item}
-use Rattle.amber_home.specs.Kept.{AreRedoing, IsHome, LiveState}
+use Rattle.amber_home.specs.Kept.{AreHeaded, AreRedoing, IsHome, LiveState}
 use Rattle.amber_home.specs.Leg.{count_at, counts_asked}
 use Rattle.amber_home.specs.Redoing.{IsJudged, NoneIsOver, is_over}
 use Rattle.amber_home.specs.declared.phase.Counts.TheVariants.{Disarmed}
@@ -177,10 +177,11 @@ module _ (e : HomeState) (live : LiveState) (to_end empty : Bool) (re : AreRedoi
             ((in-force-reached query begin after re.positions stands live.arms re.away.in_force).each op).count (stand-emitted query begin after re.positions stands op) (not op)
             (subst (λ count. IfSome count (λ one. one.target ≤ 2 ^ 40)) (target-asked live.arms op) (re.targets op)))
 
-        module _ (rest : List WorkerState) where
+        module _ (rest : List WorkerState) (headed : AreHeaded e.flow e.files) where
           pub leg-ended : IsLeg e (record live { dataflow = after; back = rest }) to_end Disarmed
           leg-ended = record {
             few = most;
+            headed = headed;
             legal = legal;
             leg = record {
               more = re.away.more;

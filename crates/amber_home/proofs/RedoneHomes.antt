@@ -8,7 +8,7 @@ use Rattle.amber_worker.specs.WorkerState.{WorkerState}
 use Rattle.amber_dataflow.specs.Dataflow.{DataflowState}
 use Rattle.amber_dataflow.specs.Parts.{parts_from}
 use Rattle.amber_home.specs.HomeState.{HomeState, counts_in, is_open, leg_state, query_of, runs_to_end, state_at, state_of}
-use Rattle.amber_home.specs.Kept.{AreRedoing, IsHome, LiveState, StandsIn}
+use Rattle.amber_home.specs.Kept.{AreHeaded, AreRedoing, IsHome, LiveState, StandsIn}
 use Rattle.amber_home.specs.Parts.{open_parts}
 use Rattle.amber_home.specs.Redoing.{may_redo}
 use Rattle.amber_home.specs.declared.phase.Counts.{Counts}
@@ -72,11 +72,11 @@ redoing-as to_end empty e live now parts turned re = record {
 }
 
 -- a home of it
-pub home-redoing : (e : HomeState) (live : LiveState) (to_end empty : Bool) (flow : List Operator) (turned : List ℕ) → flow ≡ e.flow → e.most ≤ 2 ^ 40 → IsLegal (query_of e) e.log
+pub home-redoing : (e : HomeState) (live : LiveState) (to_end empty : Bool) (flow : List Operator) (turned : List ℕ) → flow ≡ e.flow → e.most ≤ 2 ^ 40 → AreHeaded e.flow e.files → IsLegal (query_of e) e.log
     → AreRedoing to_end empty e live → IsHome (record e { flow = flow; phase = phase.Redoing to_end empty; parts = parts_from 0 live.back; turned = turned }) live
-home-redoing e live to_end empty flow turned same few legal re =
+home-redoing e live to_end empty flow turned same few headed legal re =
     subst (λ (f : List Operator). IsHome (record e { flow = f; phase = phase.Redoing to_end empty; parts = parts_from 0 live.back; turned = turned }) live) (sym same)
-    (record { few = few; legal = legal; stands = redoing-as to_end empty e live (phase.Redoing to_end empty) (parts_from 0 live.back) turned re })
+    (record { few = few; headed = headed; legal = legal; stands = redoing-as to_end empty e live (phase.Redoing to_end empty) (parts_from 0 live.back) turned re })
 
 -- what a home keeps in that phase
 pub redoing-of : (e : HomeState) (live : LiveState) (to_end empty : Bool) → IsHome e live → e.phase ≡ phase.Redoing to_end empty → AreRedoing to_end empty e live

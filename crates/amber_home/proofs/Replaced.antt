@@ -86,6 +86,7 @@ module _ (e : HomeState) (live : LiveState) (home : IsHome e live) (resting : e.
       let units : KeepUnits d now = subst (KeepUnits d) (sym is) units-replaced in
       record {
         few = home.few;
+        headed = home.headed;
         legal = home.legal;
         stands = subst (λ (p : Phase). StandsIn p (record e { parts = parts; turned = turned }) (record live { dataflow = now })) (sym resting) (record {
           at = stand (query_of e) (rest_state e) (position_at (rest_state e).positions) rest.at stands;
@@ -100,3 +101,24 @@ module _ (e : HomeState) (live : LiveState) (home : IsHome e live) (resting : e.
           stops_are = rest.stops_are;
         });
       }
+
+-- ---- a worker is taken out of its home
+
+module _ (e : HomeState) (live : LiveState) (home : IsHome e live) (resting : e.phase ≡ phase.Resting) (worker : ℕ) (inside : worker < crew_of e.flow) where
+  abbrev taken : WorkerState
+  taken = worker_state_at live.dataflow.workers worker
+
+  pub taken-rest : taken.journal ≡ []
+  unfolding journal_of
+  taken-rest = (at-rest e live home resting).none worker
+
+  pub taken-unarmed : taken.seat ≡ None
+  unfolding seat_of
+  taken-unarmed =
+      let rest = at-rest e live home resting in
+      rest.units.unarmed worker (subst (λ flow. worker < crew_of flow) (sym rest.at.flow) inside)
+
+  pub taken-stands : StandsHere e worker taken
+  taken-stands =
+      let at = (at-rest e live home resting).at.work.at.at_positions in
+      record { base = at.bases worker; shows = (at.each worker inside).shows }

@@ -1,5 +1,5 @@
 -- What a home keeps.
-use Rattle.std.specs.Prelude.{◌≡◌, ◌≢◌, ℕ, ◌^◌, ◌<◌, ◌≤◌, List, [], IfSome, None, Option, Bool, false, true}
+use Rattle.std.specs.Prelude.{◌≡◌, ◌≢◌, ℕ, ◌^◌, ◌<◌, ◌≤◌, List, [], length, IfSome, None, Option, Bool, false, true}
 use Rattle.amber_dataflow.specs.AtWork.{AreJoinedAt, state_reached, steps_by, worker_state_at}
 use Rattle.amber_dataflow.specs.Dataflow.{DataflowState, HaveDoneNothing, StandAt, step_count}
 use Rattle.amber_dataflow.specs.Parts.{parts_from}
@@ -8,6 +8,7 @@ use Rattle.amber_lines.specs.KeptStops.{kept_stops}
 use Rattle.amber_log.specs.Grammar.{ends_over}
 use Rattle.amber_meaning.specs.declared.view.Stop.{Stop}
 use Rattle.amber_meaning.specs.Legal.{IsLegal, IsWorked, leg_start}
+use Rattle.amber_meaning.specs.Plain.{scan_count, wrong_header}
 use Rattle.amber_meaning.specs.Position.{Position}
 use Rattle.amber_meaning.specs.State.{position_at}
 use Rattle.amber_worker.specs.WorkerState.{WorkerState}
@@ -15,6 +16,7 @@ use Rattle.amber_home.specs.Asked.{Asked, IsInForce}
 use Rattle.amber_boards.specs.Boards.{AreBelow, AreEmptyHanded, AreUnarmed, AreWithinTargets, CounterState, target_at}
 use Rattle.amber_boards.specs.declared.target.Target.{Target}
 use Rattle.amber_rows.specs.Topology.{crew_of}
+use Rattle.amber_rows.specs.declared.flow.Operator.{Operator}
 use Rattle.amber_home.specs.HomeState.{HomeState, query_of, rest_state}
 use Rattle.amber_home.specs.Going.{AreReady}
 use Rattle.amber_home.specs.Leg.{counts_asked}
@@ -108,9 +110,15 @@ StandsIn (phase.Redoing to_end empty) e live = AreRedoing to_end empty e live
 StandsIn phase.Over e live = Unit {0}
 StandsIn phase.Spent e live = Unit {0}
 
--- the log is legal, and the workers stand where it says
+-- there is a file for each scan, and each begins with the names of its columns
+pub record AreHeaded (flow : List Operator) (files : List (List ℕ)) : Type 0 where
+  pub one_each : length files ≡ scan_count flow
+  pub headers : wrong_header 1 files flow ≡ None
+
+-- the files are those of the scans, the log is legal, and the workers stand where it says
 pub record IsHome (e : HomeState) (live : LiveState) : Type 0 where
   pub few : e.most ≤ 2 ^ 40
+  pub headed : AreHeaded e.flow e.files
   pub legal : IsLegal (query_of e) e.log
   pub stands : StandsIn e.phase e live
 

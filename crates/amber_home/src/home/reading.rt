@@ -4,6 +4,7 @@ ghost use Rattle.std.specs.Prelude.{◌≡◌, ◌^◌, ◌<◌, ◌≤◌, ◌�
 ghost use Rattle.amber_log.specs.Fits.{fits_of};
 ghost use Rattle.amber_log.specs.Grammar.{ends_over};
 ghost use Rattle.amber_meaning.specs.Legal.{IsLegal};
+ghost use Rattle.amber_meaning.specs.Plain.{scan_count, wrong_header};
 ghost use Rattle.amber_meaning.specs.State.{arms_at, emitted_by, have_finished, position_at, steps_in};
 ghost use Rattle.amber_meaning.specs.Views.{answer_in, inspected_of};
 ghost use Rattle.amber_home.specs.HomeState.{IsEarly, NoneIsHeld, NoneIsPaused, dropped_by, has_crew, is_open, query_of, runs_to_end};
@@ -193,9 +194,11 @@ impl Home {
         self.dataflow.flow()
     }
 
-    /// The files of the scans, in the order of the operators.
+    /// The files of the scans, in the order of the operators. Each begins with the names of its columns.
     pub fn files(&self) -> &Files
-        ensures { result.now ≡ self.now.files }
+        ensures files { result.now ≡ self.now.files }
+        ensures one_each { length self.now.files ≡ scan_count self.now.flow }
+        ensures headers { wrong_header 1 self.now.files self.now.flow ≡ None }
     {
         &self.files
     }

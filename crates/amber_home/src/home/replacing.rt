@@ -1,4 +1,5 @@
-//! A worker of a home at rest that takes the place of another. Over `replace` of `amber_dataflow`.
+//! A worker of a home at rest that takes the place of another, and one that is taken out of its home. Over `replace` and
+//! `into_worker` of `amber_dataflow`.
 
 ghost use Rattle.std.specs.Prelude.{None, [], slice_set, ◌<◌, ◌≡◌};
 ghost use Rattle.amber_dataflow.specs.Replacing.{StandsFor};
@@ -25,5 +26,19 @@ impl Home {
         } }
     {
         self.dataflow.replace(worker, made);
+    }
+
+    /// Takes a worker out of a home at rest. The others are let go, and so is all else. In another home that rests behind the
+    /// same log it may take the place of the worker with its number, as `replace` says.
+    pub fn into_worker(self, worker: u32) -> Worker
+        requires resting { self.phase ≡ Phase.Resting }
+        requires there { worker < crew_of self.flow }
+        ensures rest { result.journal ≡ [] }
+        ensures unarmed { result.seat ≡ None }
+        ensures stands { StandsFor (query_of self) (rest_state self)
+            (position_at (rest_state self).positions) worker result }
+    {
+        let Home { dataflow, .. } = self;
+        dataflow.into_worker(worker)
     }
 }

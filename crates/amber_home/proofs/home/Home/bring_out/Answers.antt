@@ -23,7 +23,7 @@ invariant_of-self c =
     subst (λ to_end. IsHome (record (seen i) { flow = c.lend_to.new.self.flow; phase = phase.Redoing to_end true; parts = parts_from 0 back; turned = turned_by back }) live)
     (sym c.runs_to_end.ensures)
     (home-redoing (seen i) live (runs_to_end i.phase) true c.lend_to.new.self.flow (turned_by back) (ap (λ (d : DataflowState). d.flow) c.lend_to.ensures.none)
-    c.self.invariant.few c.self.invariant.legal
+    c.self.invariant.few c.self.invariant.headed c.self.invariant.legal
     (home-begins (seen i) (kept i) i.phase c.self.invariant begun.0 begun.1 c.lend_to.new.self back c.lend_to.ensures.workers))
 
 pub returns : goal.returns

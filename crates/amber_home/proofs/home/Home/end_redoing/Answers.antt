@@ -93,7 +93,7 @@ invariant_of-self-2 c =
     subst (λ b. IsHome (record (seen i) { flow = after.flow; phase = phase.Open b Disarmed; parts = leg_parts after; turned = turned_by after.workers }) later)
     (sym (c.runs_to_end-to_end.ensures ∙ to_end-seen i c.self.invariant c.args.self.now c.bring_out-empty.result (c.self.view_is ∙ c.bring_out-empty.ensures) c.requires.within))
     (home-driven (turned_by after.workers)
-    (home-of (seen i) later to_end Disarmed after.flow c.take_back.ensures.flow (leg-ended (seen i) (kept i) to_end c.bring_out-empty.result redoing c.self.invariant.legal c.self.invariant.few c.if-not-empty.false refl after came c.take_back.ensures.flow none rest)))
+    (home-of (seen i) later to_end Disarmed after.flow c.take_back.ensures.flow (leg-ended (seen i) (kept i) to_end c.bring_out-empty.result redoing c.self.invariant.legal c.self.invariant.few c.if-not-empty.false refl after came c.take_back.ensures.flow none rest c.self.invariant.headed)))
 
 pub returns-clause-ok : goal.returns-clause-ok
 returns-clause-ok c =
@@ -121,5 +121,5 @@ returns-clause-ok c =
     ∙ ap (λ (h : HomeState). record h { phase = phase.Open to_end Disarmed; parts = old.parts }) brought in (
       whole,
       λ closed. subst (λ (h : HomeState). IsJudged h closed) (before ∙ sym whole)
-          (judged-redone (seen i) (kept i) to_end c.bring_out-empty.result redoing c.self.invariant.legal c.self.invariant.few c.if-not-empty.false refl after came c.take_back.ensures.flow none rest closed),
+          (judged-redone (seen i) (kept i) to_end c.bring_out-empty.result redoing c.self.invariant.legal c.self.invariant.few c.if-not-empty.false refl after came c.take_back.ensures.flow none rest c.self.invariant.headed closed),
     )

@@ -14,5 +14,5 @@ invariant_of-result g c =
     let d = c.in_ok-dataflow.dataflow in
     subst (λ (flow : List Operator). IsHome (record { flow = flow; files = c.args.files; most = c.args.most; log = record { batch = c.args.batch_size; items = c.new-4.result }; phase = phase.Resting; parts = []; alone = 0; turned = turned_by d.workers })
     (record { dataflow = d; arms = c.in_ok-arms.arms; boards = c.new-5.result; stops = c.new-7.result; back = c.new-8.result.items })) (sym made.flow)
-    (home-new c.args.flow c.args.files c.args.most c.args.batch_size c.new-4.result d c.in_ok-arms.arms c.new-5.result c.new-7.result c.new-8.result.items c.requires.steps c.requires.some c.requires.few (c.new-4.ensures ∙ c.new-3.ensures.items)
+    (home-new c.args.flow c.args.files c.args.most c.args.batch_size c.new-4.result d c.in_ok-arms.arms c.new-5.result c.new-7.result c.new-8.result.items c.requires.steps (record { one_each = c.requires.one_each; headers = c.requires.headers }) c.requires.some c.requires.few (c.new-4.ensures ∙ c.new-3.ensures.items)
     (c.in_ok-arms.ensures ∙ ap first_asked (c.flow.ensures ∙ made.flow)) c.new-5.ensures (c.new-7.ensures ∙ c.new-6.ensures.items) (made.start c.args.most) made.journals made.unarmed)
