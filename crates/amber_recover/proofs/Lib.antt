@@ -3,6 +3,6 @@ pub mod ItemsDone
 pub mod Judging
 pub mod LegsDone
 pub mod PartsDone
-pub mod Recovered
 pub mod Told
 pub mod Walked
+pub mod WholeLogs

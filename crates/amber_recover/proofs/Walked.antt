@@ -163,6 +163,9 @@ pub all-done : (items : List Item) (i : ℕ) (old new : HomeState) → length it
 all-done items i old new all h =
     h.only ∙ ap (λ (xs : List Item). record old { log = record old.log { items = xs }; phase = new.phase; alone = new.alone; turned = new.turned }) (take_all i items all)
 
+pub all-rests : (items : List Item) (i : ℕ) (old new : HomeState) → length items ≤ i → HasDoneItems items i old new → ends_over false items ≡ false → new.phase ≡ phase.Resting
+all-rests items i old new all h more = h.rests (ap (ends_over false) (take_all i items all) ∙ more)
+
 pub all-told : (items : List Item) (i : ℕ) (query : Query) (tells : Bool) (text : List ℕ) → length items ≤ i → text ≡ told_of tells (transcript_of query (take i items))
     → text ≡ told_of tells (transcript_of query items)
 all-told items i query tells text all so = so ∙ ap (λ (xs : List Item). told_of tells (transcript_of query xs)) (take_all i items all)

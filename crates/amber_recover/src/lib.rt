@@ -1,4 +1,4 @@
-//! A run that is recovered from its log: `rebuild` gives its home, and `replay` its transcript.
+//! A run that is recovered from its log: `rebuild` gives its home, `replay` its transcript, and `recover` both.
 //!
 //! The lines of the log are done again one after the other, each by the worker that wrote it, and each is judged before it
 //! is done. So a log is recovered in one pass, whatever schedule it was written under, and one that no run can have written
@@ -24,4 +24,4 @@ pub mod recovering;
 mod replies;
 
 pub use error::RebuildErr;
-pub use recovering::{rebuild, replay};
+pub use recovering::{Recovered, rebuild, recover, replay};

@@ -1,4 +1,4 @@
-//! A run that is recovered from its log: its home, or its transcript. Over `Home` of `amber_home`, `redo_item` and
+//! A run that is recovered from its log: its home, its transcript, or both. Over `Home` of `amber_home`, `redo_item` and
 //! `tell_item`.
 
 ghost use Rattle.std.specs.Prelude.{◌≡◌, ◌++◌, ◌≤◌, ◌<◌, ◌+◌, ◌^◌, [], IfOk, None, false, if◌then◌else◌, length};
@@ -103,6 +103,8 @@ fn redo_items(
       turned = home.new.turned;
     }) }
     ensures silent { IfOk result (λ text. tells ≡ false → home.new.phase ≡ phase.Resting) }
+    ensures rests { IfOk result (λ text. ends_over false items.now ≡ false
+        → home.new.phase ≡ phase.Resting) }
     ensures told { IfOk result (λ text. text.items
         ≡ (if tells then transcript_of (query_of home.old) items.now else [])) }
 {
@@ -156,8 +158,54 @@ pub fn rebuild<R: Threads + Sync>(
     Ok(home)
 }
 
+/// A run that was recovered from its log.
+#[derive(Drop)]
+pub struct Recovered {
+    /// The home behind the last item. After a leg to the end its workers may have given their rows away.
+    pub home: Home,
+    /// The transcript: what the run has printed.
+    pub printed: Bytes,
+}
+
+/// The home of exactly this log, as by `rebuild`, with its transcript, as by `replay`. The log is done again once for both,
+/// and refused as there.
+pub fn recover<R: Threads + Sync>(
+    rt: &R,
+    alloc: Global,
+    flow: Flow,
+    files: Files,
+    log: &Log,
+    most: u64,
+    threads: u32,
+) -> Result<Recovered, RebuildErr>
+    requires one_each { length files ≡ scan_count flow }
+    requires steps { most ≤ 2 ^ 40 }
+    requires text { IsLog log.now }
+    requires few { length (flat_map item_lines log.now.items) < 2 ^ 32 }
+    ensures home { IfOk result (λ made. made.home ≡ record {
+      flow = flow;
+      files = files;
+      most = most;
+      log = log.now;
+      phase = made.home.phase;
+      parts = [];
+      alone = made.home.alone;
+      turned = made.home.turned;
+    }) }
+    ensures rests { IfOk result (λ made. ends_over false log.now.items ≡ false
+        → made.home.phase ≡ phase.Resting) }
+    ensures transcript { IfOk result (λ made. made.printed
+        ≡ transcript_of (query_over flow files log.now.batch most) log.now.items) }
+    ensures recovers { Recovers result
+        (record { flow = flow; files = files; most = most; log = log.now }) }
+{
+    let mut home = start(rt, alloc, flow, files, log.batch, most, threads)?;
+    let printed = Bytes::new(redo_items(alloc, &mut home, log.items.get(), true)?);
+    Ok(Recovered { home, printed })
+}
+
 /// The transcript of a log: what its run has printed, the reply to each item behind that to the one before. The log is done
-/// again as by `rebuild`, and refused as there.
+/// again as by `rebuild`, and refused as there. It is `recover` whose home is let go.
 pub fn replay<R: Threads + Sync>(
     rt: &R,
     alloc: Global,
@@ -176,6 +224,6 @@ pub fn replay<R: Threads + Sync>(
     ensures recovers { Recovers result
         (record { flow = flow; files = files; most = most; log = log.now }) }
 {
-    let mut home = start(rt, alloc, flow, files, log.batch, most, threads)?;
-    Ok(Bytes::new(redo_items(alloc, &mut home, log.items.get(), true)?))
+    let Recovered { home: _, printed } = recover(rt, alloc, flow, files, log, most, threads)?;
+    Ok(printed)
 }

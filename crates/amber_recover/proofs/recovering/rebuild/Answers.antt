@@ -2,7 +2,7 @@
 use Rattle.std.proofs.Common.{◌≡◌, Err, ap, rules}
 use Rattle.amber_home.specs.HomeState.{query_of}
 use Rattle.amber_recover.specs.Recovering.{Recorded}
-use Rattle.amber_recover.proofs.Recovered.{recovers-all, recovers-not}
+use Rattle.amber_recover.proofs.WholeLogs.{recovers-all, recovers-not}
 use Rattle.amber_recover.proofs.recovering.rebuild.Goals as goal
 
 pub returns-in_err-redo_items-clause-recovers : goal.returns-in_err-redo_items-clause-recovers

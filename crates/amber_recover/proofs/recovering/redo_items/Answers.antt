@@ -6,7 +6,7 @@ use Rattle.amber_lines.specs.Lines.{Between, bad_line_from}
 use Rattle.amber_home.specs.HomeState.{query_of, rest_state}
 use Rattle.amber_log.proofs.Lengths.{items-few, items-longer}
 use Rattle.amber_recover.proofs.PartsDone.{no-some}
-use Rattle.amber_recover.proofs.Walked.{all-done, all-told, first-done, left-bad, left-first, left-more, left-none, next-done, next-open, next-rests, next-text, told-first, told-more}
+use Rattle.amber_recover.proofs.Walked.{all-done, all-rests, all-told, first-done, left-bad, left-first, left-more, left-none, next-done, next-open, next-rests, next-text, told-first, told-more}
 use Rattle.amber_recover.proofs.recovering.redo_items.Goals as goal
 
 pub loop-item-init : goal.loop-item-init
@@ -85,3 +85,6 @@ returns-clause-done c = all-done c.args.items.now c.loop-item.item-index c.args.
 pub returns-clause-told : goal.returns-clause-told
 returns-clause-told c =
     all-told c.args.items.now c.loop-item.item-index (query_of c.args.home.now) c.args.tells c.loop-item.text.items c.loop-item-test.false c.loop-item.invariant.told
+
+pub returns-clause-rests : goal.returns-clause-rests
+returns-clause-rests c = all-rests c.args.items.now c.loop-item.item-index c.args.home.now c.loop-item.home c.loop-item-test.false c.loop-item.invariant.done

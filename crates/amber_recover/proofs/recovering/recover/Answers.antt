@@ -2,8 +2,8 @@
 use Rattle.std.proofs.Common.{◌≡◌, Err, ap, rules}
 use Rattle.amber_home.specs.HomeState.{query_of}
 use Rattle.amber_recover.specs.Recovering.{Recorded}
-use Rattle.amber_recover.proofs.Recovered.{recovers-all, recovers-not}
-use Rattle.amber_recover.proofs.recovering.replay.Goals as goal
+use Rattle.amber_recover.proofs.WholeLogs.{recovers-all, recovers-not}
+use Rattle.amber_recover.proofs.recovering.recover.Goals as goal
 
 pub returns-in_err-redo_items-clause-recovers : goal.returns-in_err-redo_items-clause-recovers
 returns-in_err-redo_items-clause-recovers g c =
