@@ -298,6 +298,28 @@ impl Debugger {
         })
     }
 
+    /// A run that goes on behind the log of a home, on this many threads, 1 to 64.
+    pub fn resume(home: Home, threads: u32) -> Debugger
+        requires rests { ends_over false home.log.items ≡ false → home.phase ≡ phase.Resting }
+        requires legal { IsLegal (query_of home) home.log }
+        requires some_threads { 0 < threads }
+        requires few_threads { threads ≤ 64 }
+        ensures { result ≡ record {
+          flow = home.flow;
+          files = home.files;
+          most = home.most;
+          threads = threads;
+          log = home.log;
+          spent = false;
+        } }
+    {
+        Debugger {
+            home,
+            threads,
+            spent: false,
+        }
+    }
+
     /// Does a command: the log grows by one item, and there is one reply. In a leg the workers go side by side on the
     /// threads of the run, and pass the gate before each turn.
     ///
