@@ -23,7 +23,7 @@ use Rattle.amber_dataflow.specs.AtWork.{worker_state_at}
 use Rattle.amber_dataflow.specs.Dataflow.{AreAllThere, DataflowState, rows_emitted, worker_set, worker_watching}
 use Rattle.amber_boards.specs.Boards.{AreBelow, IsBelow}
 use Rattle.amber_boards.specs.declared.target.Target.{Target}
-use Rattle.amber_home.specs.Applied.{HasDropped, HasOperator, arms_after, dataflow_after, with_condition, with_constants, without_dropped}
+use Rattle.amber_home.specs.Applied.{HasNamed, HasOperator, arms_after, dataflow_after, with_condition, with_constants, without_dropped}
 use Rattle.amber_home.specs.Asked.{Asked, asked_changed, counting_since, no_asked}
 use Rattle.amber_home.specs.Leg.{count_at, counts_asked}
 use Rattle.amber_home.proofs.Places.{at-here, nth-other}
@@ -52,7 +52,7 @@ keep-constants op (Some value) d = keep-mapped (worker_set op value) (λ w. by w
     by w true = record { seat = refl; hand = refl; emitted = refl }
     by w false = record { seat = refl; hand = refl; emitted = refl }
 
-keep-dropped : (op : ℕ) (drops : Option ℕ) (d : DataflowState) → AreAllThere d → HasDropped d op drops → KeepUnits d (without_dropped op drops d)
+keep-dropped : (op : ℕ) (drops : Option ℕ) (d : DataflowState) → AreAllThere d → HasNamed d op drops → KeepUnits d (without_dropped op drops d)
 keep-dropped op None d there inside = keep-same d
 keep-dropped op (Some worker) d there inside =
     let k = worker_at d.flow op worker in
@@ -64,7 +64,7 @@ keep-dropped op (Some worker) d there inside =
     by w true = record { seat = refl; hand = refl; emitted = refl }
     by w false = record { seat = refl; hand = refl; emitted = refl }
 
-pub keep-after : (effect : Effect) (d : DataflowState) → AreAllThere d → HasDropped d effect.op effect.drops → KeepUnits d (dataflow_after effect d)
+pub keep-after : (effect : Effect) (d : DataflowState) → AreAllThere d → HasNamed d effect.op effect.drops → KeepUnits d (dataflow_after effect d)
 keep-after effect d there inside =
     let lighter = without_dropped effect.op effect.drops d in
     let set = with_constants effect.op effect.arming.constant lighter in

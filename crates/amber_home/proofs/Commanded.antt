@@ -37,7 +37,7 @@ use Rattle.amber_dataflow.specs.AtWork.{turned_by}
 use Rattle.amber_dataflow.specs.Dataflow.{AreAllThere, AreHeldByRows, DataflowState, HaveDoneNothing, StandAt, row_dropped, rows_emitted}
 use Rattle.amber_dataflow.proofs.Dropped.{dropped-nothing, dropped_at, stand-dropped}
 use Rattle.amber_dataflow.proofs.Standing.{AgreeButCount, agree-same, set-nothing, stand-at, stand-flow, stand-kept, stand-set, stand-there, stand-watched, watched-nothing}
-use Rattle.amber_home.specs.Applied.{HasDropped, HasOperator, arms_after, dataflow_after, with_condition, with_constants, without_dropped}
+use Rattle.amber_home.specs.Applied.{HasNamed, HasOperator, arms_after, dataflow_after, with_condition, with_constants, without_dropped}
 use Rattle.amber_boards.specs.Boards.{AreBelow}
 use Rattle.amber_home.specs.Asked.{Asked, IsInForce}
 use Rattle.amber_home.specs.Leg.{counts_asked}
@@ -127,7 +127,7 @@ module _ (query : Query) (state : State) (d : DataflowState) (stand : StandAt qu
           ∙ ap (λ b. if b then without_held (position_at state.positions k) else position_at state.positions k) (sym (ne_eqb k worker other.1))
     ]
 
-    stands-dropped : (drops : Option ℕ) → HasDropped d op drops → StandAt query (lighter drops) (without_dropped op drops d) (position_at (lighter drops).positions)
+    stands-dropped : (drops : Option ℕ) → HasNamed d op drops → StandAt query (lighter drops) (without_dropped op drops d) (position_at (lighter drops).positions)
     stands-dropped None inside = stand
     stands-dropped (Some w) inside =
         let worker = worker_at query.flow op w in
@@ -233,7 +233,7 @@ module _ (query : Query) (state : State) (d : DataflowState) (stand : StandAt qu
 -- all of it
 pub stands-after : (query : Query) (state : State) (d : DataflowState) → StandAt query state d (position_at state.positions) → HaveDoneNothing d → AreHeldByRows d
     → length state.arms ≡ length query.flow → length state.positions ≡ crew_of query.flow → (effect : Effect) → HasOperator effect.op (length query.flow)
-    → HasDropped d effect.op effect.drops
+    → HasNamed d effect.op effect.drops
     → StandAt query (after_action query.flow (AtRest effect) state) (dataflow_after effect d) (position_at (after_action query.flow (AtRest effect) state).positions)
 unfolding asked
 stands-after query state d stand none rows long crew effect there inside =
@@ -253,7 +253,7 @@ worker-there flow op worker has = worker-known flow op (worker_at flow op worker
 
 abbrev DropsIn : DataflowState → Action → Type 0
 DropsIn d (Leg to_end) = Unit {0}
-DropsIn d (AtRest effect) = HasDropped d effect.op effect.drops
+DropsIn d (AtRest effect) = HasNamed d effect.op effect.drops
 
 drops-in : (d : DataflowState) (one : Command) → action_fits d.flow (action_of one) ≡ true → DropsIn d (action_of one)
 drops-in d command.Run fits = tt
@@ -267,9 +267,30 @@ drops-in d (command.Drop op worker) fits = worker-there d.flow op worker fits
 drops-in d (command.Inspect op) fits = tt
 drops-in d (command.Lose op worker) fits = tt
 
-drops-there : (d : DataflowState) (one : Command) (effect : Effect) → action_of one ≡ AtRest effect → fits_of d.flow one ≡ true → HasDropped d effect.op effect.drops
+drops-there : (d : DataflowState) (one : Command) (effect : Effect) → action_of one ≡ AtRest effect → fits_of d.flow one ≡ true → HasNamed d effect.op effect.drops
 unfolding fits_of
 drops-there d one effect is fits = subst (DropsIn d) is (drops-in d one fits)
+
+-- nor is one lost that is not there
+abbrev LosesIn : DataflowState → Action → Type 0
+LosesIn d (Leg to_end) = Unit {0}
+LosesIn d (AtRest effect) = HasNamed d effect.op effect.loses
+
+loses-in : (d : DataflowState) (one : Command) → action_fits d.flow (action_of one) ≡ true → LosesIn d (action_of one)
+loses-in d command.Run fits = tt
+loses-in d command.End fits = tt
+loses-in d (command.Pause op n) fits = tt
+loses-in d (command.Count op n) fits = tt
+loses-in d (command.When op cond) fits = tt
+loses-in d (command.Clear op) fits = tt
+loses-in d (command.Set op value) fits = tt
+loses-in d (command.Drop op worker) fits = tt
+loses-in d (command.Inspect op) fits = tt
+loses-in d (command.Lose op worker) fits = worker-there d.flow op worker fits
+
+loses-there : (d : DataflowState) (one : Command) (effect : Effect) → action_of one ≡ AtRest effect → fits_of d.flow one ≡ true → HasNamed d effect.op effect.loses
+unfolding fits_of
+loses-there d one effect is fits = subst (LosesIn d) is (loses-in d one fits)
 
 -- ---- the home
 
@@ -305,8 +326,12 @@ module _ (e : HomeState) (live : LiveState) (home : IsHome e live) (resting : e.
   rows-resting = rows-rest e live rest home.legal
 
   -- the worker is there whose row a command drops
-  pub drops-resting : (one : Command) (effect : Effect) → action_of one ≡ AtRest effect → fits_of e.flow one ≡ true → HasDropped live.dataflow effect.op effect.drops
+  pub drops-resting : (one : Command) (effect : Effect) → action_of one ≡ AtRest effect → fits_of e.flow one ≡ true → HasNamed live.dataflow effect.op effect.drops
   drops-resting one effect is fits = drops-there live.dataflow one effect is (subst (λ f. fits_of f one ≡ true) (sym rest.at.flow) fits)
+
+  -- the worker is there that a command loses
+  pub loses-resting : (one : Command) (effect : Effect) → action_of one ≡ AtRest effect → fits_of e.flow one ≡ true → HasNamed live.dataflow effect.op effect.loses
+  loses-resting one effect is fits = loses-there live.dataflow one effect is (subst (λ f. fits_of f one ≡ true) (sym rest.at.flow) fits)
 
   -- the operator that a command names is there
   pub names-resting : (one : Command) (effect : Effect) → action_of one ≡ AtRest effect → fits_of e.flow one ≡ true → HasOperator effect.op (length live.arms)

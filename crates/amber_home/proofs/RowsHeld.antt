@@ -12,7 +12,7 @@ use Rattle.amber_worker.specs.AtPosition.{placement_of}
 use Rattle.amber_dataflow.specs.AtWork.{state_reached, worker_state_at}
 use Rattle.amber_dataflow.specs.Dataflow.{DataflowState, StandAt, row_held_at}
 use Rattle.amber_dataflow.proofs.Standing.{stand-position}
-use Rattle.amber_home.specs.Applied.{HasDropped, dropped_row}
+use Rattle.amber_home.specs.Applied.{HasNamed, dropped_row}
 use Rattle.amber_home.specs.HomeState.{HomeState, dropped_in, query_of, rest_state}
 use Rattle.amber_home.specs.Kept.{IsHome, LiveState}
 use Rattle.amber_home.specs.declared.phase.Phase.TheVariants as phase
@@ -32,11 +32,11 @@ held-row query start d positions stand worker inside =
 
 module _ (e : HomeState) (live : LiveState) where
   -- the row that a command drops
-  pub dropped-resting : IsHome e live → e.phase ≡ phase.Resting → (effect : Effect) → HasDropped live.dataflow effect.op effect.drops
+  pub dropped-resting : IsHome e live → e.phase ≡ phase.Resting → (effect : Effect) → HasNamed live.dataflow effect.op effect.drops
       → dropped_row effect.op effect.drops live.dataflow ≡ dropped_in (query_of e) (rest_state e) effect.op effect.drops
   dropped-resting home resting effect = by effect.drops
     where
-      by : (drops : Option ℕ) → HasDropped live.dataflow effect.op drops → dropped_row effect.op drops live.dataflow ≡ dropped_in (query_of e) (rest_state e) effect.op drops
+      by : (drops : Option ℕ) → HasNamed live.dataflow effect.op drops → dropped_row effect.op drops live.dataflow ≡ dropped_in (query_of e) (rest_state e) effect.op drops
       by None inside = refl
       by (Some w) inside =
           let rest = at-rest e live home resting in

@@ -15,10 +15,10 @@ use Rattle.amber_home.specs.Asked.{Asked, asked_changed}
 abbrev pub HasOperator : ℕ → ℕ → Type 0
 HasOperator op count = (0 < op) × (op ≤ count)
 
--- the worker is there whose row is dropped, where one is named
-abbrev pub HasDropped : DataflowState → ℕ → Option ℕ → Type 0
-HasDropped d op None = Unit {0}
-HasDropped d op (Some worker) = worker_at d.flow op worker < crew_of d.flow
+-- the worker of an operator is there that is named, where one is
+abbrev pub HasNamed : DataflowState → ℕ → Option ℕ → Type 0
+HasNamed d op None = Unit {0}
+HasNamed d op (Some worker) = worker_at d.flow op worker < crew_of d.flow
 
 -- what is in force, where its operator has emitted so many rows
 abbrev pub arms_after : Effect → ℕ → List Asked → List Asked

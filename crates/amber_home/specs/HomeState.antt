@@ -192,6 +192,19 @@ dropped_by_action e (AtRest effect) = dropped_in (query_of e) (rest_state e) eff
 abbrev pub dropped_by : HomeState → Command → Option (List Value)
 dropped_by e command = dropped_by_action e (action_of command)
 
+-- the number among all of the worker that is lost, where one of an operator's is named
+abbrev pub lost_in : List Operator → ℕ → Option ℕ → Option ℕ
+lost_in flow op None = None
+lost_in flow op (Some worker) = Some (worker_at flow op worker)
+
+abbrev pub lost_by_action : HomeState → Action → Option ℕ
+lost_by_action e (Leg to_end) = None
+lost_by_action e (AtRest effect) = lost_in e.flow effect.op effect.loses
+
+-- the worker that a command loses
+abbrev pub lost_by : HomeState → Command → Option ℕ
+lost_by e command = lost_by_action e (action_of command)
+
 -- a leg as an item, up to a stop or to the end
 abbrev pub item_of_leg : Bool → List Part → Close → Item
 item_of_leg true parts close = item.End (record { parts = parts; close = close })

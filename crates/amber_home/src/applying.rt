@@ -1,12 +1,13 @@
 //! A command that is done at rest: the copies that it wants, and what it changes. Over `InForce` and
 //! `Dataflow`.
 
-ghost use Rattle.std.specs.Prelude.{◌≡◌, ◌<◌, ◌≤◌, ◌∷◌, ◌++◌, IfOk, None, OnErr, OnOk, Some, [], length, option_map, replicate};
+ghost use Rattle.std.specs.Prelude.{◌≡◌, ◌<◌, ◌≤◌, ◌∷◌, ◌++◌, IfOk, IfSome, None, OnErr, OnOk, Some, [], length, option_map, replicate};
 ghost use Rattle.amber_rows.specs.Topology.{crew_of};
 ghost use Rattle.amber_rows.specs.declared.value.Value.{Value};
 ghost use Rattle.amber_dataflow.specs.Dataflow.{AreAllThere, AreHeldByRows, HaveDoneNothing, rows_emitted};
-ghost use Rattle.amber_home.specs.Applied.{HasDropped, HasOperator, arms_after, conditions_wanted, copies_wanted};
+ghost use Rattle.amber_home.specs.Applied.{HasNamed, HasOperator, arms_after, conditions_wanted, copies_wanted};
 ghost use Rattle.amber_home.specs.Applied.{dataflow_after, dropped_row, with_condition, with_constants, without_dropped};
+ghost use Rattle.amber_home.specs.HomeState.{lost_in};
 ghost use Rattle.amber_log.specs.declared.log.Item.TheVariants as item;
 ghost use Rattle.amber_meaning.specs.State.{put, worker_at};
 
@@ -106,12 +107,26 @@ fn worker_at(dataflow: &Dataflow, op: u32, worker: u32) -> u32
     dataflow.flow().first_worker(op) + worker
 }
 
+/// The number among all of the worker that a command loses, if it loses one.
+pub(crate) fn worker_to_lose(effect: &Effect<'_>, dataflow: &Dataflow) -> Option<u32>
+    requires operator { HasOperator effect.now.op (length dataflow.now.flow) }
+    requires few { crew_of dataflow.now.flow ≤ 128 }
+    requires there { HasNamed dataflow.now effect.now.op effect.now.loses }
+    ensures is { result ≡ lost_in dataflow.now.flow effect.now.op effect.now.loses }
+    ensures there { IfSome result (λ worker. worker < crew_of dataflow.now.flow) }
+{
+    let Some(worker) = effect.loses else {
+        return None;
+    };
+    Some(worker_at(dataflow, effect.op, worker))
+}
+
 /// The row before which the worker is held that a command names, if it names one.
 pub(crate) fn row_to_drop<'a>(effect: &Effect<'_>, dataflow: &'a Dataflow) -> Option<&'a Row>
     requires workers { AreAllThere dataflow.now }
     requires operator { HasOperator effect.now.op (length dataflow.now.flow) }
     requires few { crew_of dataflow.now.flow ≤ 128 }
-    requires there { HasDropped dataflow.now effect.now.op effect.now.drops }
+    requires there { HasNamed dataflow.now effect.now.op effect.now.drops }
     ensures { option_map (λ row. row.now) result
         ≡ dropped_row effect.now.op effect.now.drops dataflow.now }
 {
@@ -126,7 +141,7 @@ fn drop_row(effect: &Effect<'_>, dataflow: &mut Dataflow) -> Option<Row>
     requires workers { AreAllThere dataflow.old }
     requires operator { HasOperator effect.now.op (length dataflow.old.flow) }
     requires few { crew_of dataflow.old.flow ≤ 128 }
-    requires there { HasDropped dataflow.old effect.now.op effect.now.drops }
+    requires there { HasNamed dataflow.old effect.now.op effect.now.drops }
     requires rest { HaveDoneNothing dataflow.old }
     requires rows { AreHeldByRows dataflow.old }
     ensures row { result ≡ dropped_row effect.now.op effect.now.drops dataflow.old }
@@ -153,7 +168,7 @@ pub(crate) fn put_in_force(
     requires there { HasOperator effect.now.op (length arms.old) }
     requires within { effect.now.op ≤ length dataflow.old.flow }
     requires few { crew_of dataflow.old.flow ≤ 128 }
-    requires worker { HasDropped dataflow.old effect.now.op effect.now.drops }
+    requires worker { HasNamed dataflow.old effect.now.op effect.now.drops }
     requires rest { HaveDoneNothing dataflow.old }
     requires rows { AreHeldByRows dataflow.old }
     requires copies { copies.items

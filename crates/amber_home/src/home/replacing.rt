@@ -1,17 +1,33 @@
 //! A worker of a home at rest that takes the place of another, and one that is taken out of its home. Over `replace` and
 //! `into_worker` of `amber_dataflow`.
 
-ghost use Rattle.std.specs.Prelude.{None, [], slice_set, ◌<◌, ◌≡◌};
+ghost use Rattle.std.specs.Prelude.{IfSome, None, [], slice_set, true, ◌<◌, ◌≡◌};
 ghost use Rattle.amber_dataflow.specs.Replacing.{StandsFor};
+ghost use Rattle.amber_log.specs.Fits.{fits_of};
 ghost use Rattle.amber_meaning.specs.State.{position_at};
 ghost use Rattle.amber_rows.specs.Topology.{crew_of};
-ghost use Rattle.amber_home.specs.HomeState.{query_of, rest_state};
+ghost use Rattle.amber_home.specs.HomeState.{lost_by, query_of, rest_state};
 
 use super::Home;
+use crate::applying::worker_to_lose;
 use crate::phase::Phase;
+use amber_log::{Action, Command};
 use amber_worker::Worker;
 
 impl Home {
+    /// The number among all workers of the one that a command loses, if it loses one.
+    pub fn worker_to_lose(&self, command: &Command) -> Option<u32>
+        requires resting { self.now.phase ≡ Phase.Resting }
+        requires fits { fits_of self.now.flow command.now ≡ true }
+        ensures is { result ≡ lost_by self.now command.now }
+        ensures there { IfSome result (λ worker. worker < crew_of self.now.flow) }
+    {
+        match command.action() {
+            Action::Leg { to_end: _ } => None,
+            Action::AtRest(effect) => worker_to_lose(&effect, &self.dataflow),
+        }
+    }
+
     /// A worker becomes another one, which shows the same position over links of its own, and has done nothing since. Only
     /// the ends of its links stay, so the home stands for the same log.
     pub fn replace(&mut self, worker: u32, made: Worker)
