@@ -17,11 +17,16 @@
 //! gives the home that rests where the run was cut off: a leg may be opened there, or a command done.
 #![tactic(auto)]
 
+mod copying;
+mod counting;
 pub mod error;
 mod items;
 mod parts;
+pub mod rebuilding;
 pub mod recovering;
-mod replies;
+pub mod replies;
 
 pub use error::RebuildErr;
+pub use rebuilding::rebuild_worker;
 pub use recovering::{Recovered, rebuild, recover, replay};
+pub use replies::reply_at_rest;

@@ -21,8 +21,8 @@ use amber_report::{answer_lines, inspect_lines, ok_line, stop_lines};
 use amber_rows::Bytes;
 use std::alloc::{AllocError, Global};
 
-// The reply to a command with this effect, before it is done.
-fn reply_at_rest(
+/// The reply to a command with this effect, before it is done.
+pub fn reply_at_rest(
     alloc: Global,
     home: &Home,
     command: &Command,
