@@ -140,11 +140,18 @@ runs-end old mid new done flow answer (leg, text) e same is reply = (
 
 -- ---- at rest
 
+-- another worker took the place of one that was lost, and the command was done
+pub done-over : (old mid new : HomeState) (done : Command) → mid ≡ record old { turned = mid.turned } → new ≡ record mid { log = with_item mid.log (item.Do done) }
+    → new ≡ record old { log = with_item old.log (item.Do done); turned = new.turned }
+done-over old mid new done replaced applied =
+    applied ∙ ap (λ (h : HomeState). record h { log = with_item h.log (item.Do done) }) replaced
+    ∙ sym (ap (λ (h : HomeState). record old { log = with_item old.log (item.Do done); turned = h.turned }) applied)
+
 -- the log stays legal
 pub legal-done : (old new : HomeState) (done : Command) → IsLegal (query_of old) old.log → ends_over false old.log.items ≡ false → IsCommand done → fits_of old.flow done ≡ true
-    → new ≡ record old { log = with_item old.log (item.Do done) } → IsLegal (query_of new) new.log
+    → new ≡ record old { log = with_item old.log (item.Do done); turned = new.turned } → IsLegal (query_of new) new.log
 legal-done old new done legal more is fits e =
-    rw e (legal_logs_grow (query_of old) old.log.batch old.log.items (item.Do done) (after_command old.flow done legal.after) legal more is (fits, refl)).0
+    subst (λ (h : HomeState). IsLegal (query_of h) h.log) (sym e) (legal_logs_grow (query_of old) old.log.batch old.log.items (item.Do done) (after_command old.flow done legal.after) legal more is (fits, refl)).0
 
 -- ---- what is kept
 

@@ -61,8 +61,9 @@ is_cut_off (Ok done) = false
 is_cut_off (Err (end_err.Long text)) = false
 is_cut_off (Err end_err.NoMemory) = true
 
--- a command that is no leg has its item in the log, with its text and the reply to it
+-- a command that is no leg has its item in the log, with its text and the reply to it; the turns of a worker that was put in the place of
+-- one that was lost are its own
 pub record DoesAtRest (old new : HomeState) (told : Done) (command : Command) : Type 0 where
-  pub home : new ≡ record old { log = with_item old.log (item.Do command) }
+  pub home : new ≡ record old { log = with_item old.log (item.Do command); turned = new.turned }
   pub text : told.item ≡ item_text (item.Do command)
   pub reply : told.reply ≡ reply_of (query_of old) (rest_state old) (item.Do command)

@@ -6,13 +6,11 @@ ghost use Rattle.amber_log.specs.Commands.{action_of};
 ghost use Rattle.amber_log.specs.Fits.{fits_of};
 ghost use Rattle.amber_log.specs.Grammar.{IsLog, ends_over};
 ghost use Rattle.amber_log.specs.declared.effect.Action.TheVariants as action;
-ghost use Rattle.amber_log.specs.declared.log.Item.TheVariants as item;
 ghost use Rattle.amber_meaning.specs.Legal.{IsLegal};
 ghost use Rattle.amber_meaning.specs.Plain.{scan_count, wrong_header};
-ghost use Rattle.amber_meaning.specs.Transcript.{reply_of};
 ghost use Rattle.amber_script.specs.Commands.{is_scripted};
 ghost use Rattle.amber_home.specs.Beginning.{BeginsOrNames};
-ghost use Rattle.amber_home.specs.HomeState.{is_done_at_rest, query_of, rest_state};
+ghost use Rattle.amber_home.specs.HomeState.{query_of};
 ghost use Rattle.amber_home.specs.declared.phase.Phase.TheVariants as phase;
 ghost use Rattle.amber_debug.specs.AtHome.{DoesAtRest, IsLastText, RunsAs, TellsLeg, answer_to_run, is_cut_off};
 ghost use Rattle.amber_debug.specs.Session.{Does, query_in};
@@ -21,10 +19,11 @@ use crate::done::{DebugErr, Done, EndErr};
 use amber_home::{Home, HomeErr};
 use amber_journal::{write_command, write_item};
 use amber_leg::{LegErr, leg};
-use amber_log::{Action, Command, Effect, Log, Reply, commands_have_text};
+use amber_log::{Action, Command, Effect, Log, commands_have_text};
 use amber_mail::Gate;
 use amber_meaning::wrong_header;
-use amber_report::{answer_lines, inspect_lines, ok_line, stop_lines};
+use amber_recover::{rebuild_worker, reply_at_rest};
+use amber_report::{answer_lines, stop_lines};
 use amber_rows::{Bytes, Files, Flow};
 use std::alloc::{AllocError, Global};
 use std::marker::Model;
@@ -157,32 +156,27 @@ fn run_to_end<R: Threads + Sync, G: Gate + Sync>(
     })
 }
 
-// The reply to a command with this effect.
-fn reply_at_rest(
+// Puts another in the place of the worker that a command loses, if it loses one: one that is rebuilt from the log alone.
+fn replace_lost<R: Threads + Sync>(
+    rt: &R,
     alloc: Global,
-    home: &Home,
+    home: &mut Home,
     command: &Command,
-    effect: &Effect<'_>,
-) -> Result<Bytes, AllocError>
-    requires resting { home.now.phase ≡ phase.Resting }
-    requires fits { fits_of home.now.flow command.now ≡ true }
-    requires at_rest { is_done_at_rest command.now ≡ true }
-    requires effect { action_of command.now ≡ action.AtRest effect.now }
-    ensures { IfOk result (λ reply. reply
-        ≡ reply_of (query_of home.now) (rest_state home.now) (item.Do command.now)) }
+) -> Result<(), AllocError>
+    requires resting { home.old.phase ≡ phase.Resting }
+    requires fits { fits_of home.old.flow command.now ≡ true }
+    ensures { home.new ≡ record home.old { turned = home.new.turned } }
 {
-    match effect.reply {
-        Reply::Done => ok_line(alloc, home.flow(), command, None),
-        Reply::Shown => {
-            let seen = home.inspect(alloc, effect.op)?;
-            inspect_lines(alloc, home.flow(), &seen)
-        }
-        Reply::Dropped => ok_line(alloc, home.flow(), command, home.row_to_drop(command)),
+    if let Some(worker) = home.worker_to_lose(command) {
+        let made = rebuild_worker(rt, alloc, home, worker)?;
+        home.replace(worker, made);
     }
+    Ok(())
 }
 
 // Does a command with this effect. Its text and the reply are there before it is done.
-fn do_at_rest(
+fn do_at_rest<R: Threads + Sync>(
+    rt: &R,
     alloc: Global,
     home: &mut Home,
     command: &Command,
@@ -191,16 +185,16 @@ fn do_at_rest(
     requires resting { home.old.phase ≡ phase.Resting }
     requires open { ends_over false home.old.log.items ≡ false }
     requires fits { fits_of home.old.flow command.now ≡ true }
-    requires at_rest { is_done_at_rest command.now ≡ true }
     requires effect { action_of command.now ≡ action.AtRest effect.now }
     requires legal { IsLegal (query_of home.old) home.old.log }
     ensures ok { IfOk result (λ done. DoesAtRest home.old home.new done command.now) }
-    ensures err { OnErr result (home.new ≡ home.old) }
+    ensures err { OnErr result (home.new ≡ record home.old { turned = home.new.turned }) }
     ensures legal { IsLegal (query_of home.new) home.new.log }
 {
     commands_have_text(command);
     let item = Bytes::new(write_command(alloc, command)?);
     let reply = reply_at_rest(alloc, home, command, effect)?;
+    replace_lost(rt, alloc, home, command)?;
     home.apply(alloc, command)?;
     Ok(Done {
         item,
@@ -321,7 +315,8 @@ impl Debugger {
     }
 
     /// Does a command: the log grows by one item, and there is one reply. In a leg the workers go side by side on the
-    /// threads of the run, and pass the gate before each turn.
+    /// threads of the run, and pass the gate before each turn. A worker that is lost is rebuilt from the log alone, and takes
+    /// its own place again.
     ///
     /// # Errors
     ///
@@ -337,8 +332,6 @@ impl Debugger {
         gate: &G,
     ) -> Result<Done, DebugErr>
         requires fits { fits_of self.old.flow command.now ≡ true }
-
-        // Losses of workers are not built yet, and no script has them.
         requires scripted { (is_scripted command.now ≡ true) ⊎ (command.now ≡ Command.End) }
         requires open { ends_over false self.old.log.items ≡ false }
         ensures does { Does result self.old self.new command.now }
@@ -358,7 +351,7 @@ impl Debugger {
                 let told = run_to_end(rt, alloc, &mut self.home, self.threads, gate);
                 answer_to_run(told, &mut self.spent)
             }
-            Action::AtRest(effect) => Ok(do_at_rest(alloc, &mut self.home, command, &effect)?),
+            Action::AtRest(effect) => Ok(do_at_rest(rt, alloc, &mut self.home, command, &effect)?),
         }
     }
 

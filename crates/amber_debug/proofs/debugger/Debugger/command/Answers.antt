@@ -1,7 +1,6 @@
 -- Nothing follows a leg to the end, and one that was too long; nor where memory ran out.
-use Rattle.std.proofs.Common.{false, inl, inr, refl, sym, true, ◌∙◌}
+use Rattle.std.proofs.Common.{false, inl, inr, refl, true}
 use Rattle.amber_debug.proofs.Homes.{kept-ran}
-use Rattle.amber_debug.proofs.Replies.{no-leg-rests}
 use Rattle.amber_debug.proofs.debugger.Debugger.command.Goals as goal
 
 pub invariant_of-self : goal.invariant_of-self
@@ -13,6 +12,3 @@ pub invariant_of-self-in-Leg-false : goal.invariant_of-self-in-Leg-false
 invariant_of-self-in-Leg-false g c =
     let ran = c.run_to_stop-told in
     (rw c.answer_to_run-in-Leg-false.ensures.spent (kept-ran false c.self.inside.home ran.new.home ran.result ran.ensures.runs ran.ensures.legal (inr ran.ensures.rests)), c.self.invariant.1, c.self.invariant.2)
-
-pub do_at_rest-requires-clause-at_rest : goal.do_at_rest-requires-clause-at_rest
-do_at_rest-requires-clause-at_rest g c = no-leg-rests c.args.command.now c.in-AtRest.effect (sym c.action.ensures ∙ c.in-AtRest.is)
