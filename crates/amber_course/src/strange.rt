@@ -12,7 +12,8 @@ use amber_journal::write_command;
 use amber_log::{Action, Command, Item, commands_have_text, item_length};
 use std::alloc::{AllocError, Global};
 
-// An item of a command begins with a line that has a text. It does nothing; its contract is the law.
+// An item of a command begins with a line that has a text. It does nothing; its contract is the
+// law.
 fn command_has_line(command: &Command)
     ensures { IsLine (opening_of command.now) }
 {
@@ -59,8 +60,8 @@ fn is_made_for(alloc: Global, item: &Item, command: &Command) -> Result<bool, Al
     }
 }
 
-// Whether an item was made for the command at a place among those of a script, with the one to run to
-// the end behind them.
+// Whether an item was made for the command at a place among those of a script, with the one to run
+// to the end behind them.
 fn is_next(
     alloc: Global,
     item: &Item,
@@ -77,9 +78,9 @@ fn is_next(
     }
 }
 
-/// The line of the first item of an old log that was not made for the next command of a script, where
-/// the one to run to the end comes behind them. The lines are numbered from 1 with the head. Where
-/// there is none, the items' commands are the first of the script's and that one.
+/// The line of the first item of an old log that was not made for the next command of a script,
+/// where the one to run to the end comes behind them. The lines are numbered from 1 with the head.
+/// Where there is none, the items' commands are the first of the script's and that one.
 pub fn strange_line(
     alloc: Global,
     commands: &[Command],
