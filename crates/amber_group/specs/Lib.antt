@@ -1,4 +1,5 @@
 pub mod Finished
+pub mod Lines
 pub mod Group
 pub mod Feeding
 pub mod Running

@@ -35,6 +35,16 @@ impl Model for Groups {
     ghost view = { λ a. a.table.entries };
 }
 
+impl Clone for Groups {
+    ghost is_clone = { λ groups copy. copy ≡ groups };
+
+    fn clone(&self) -> Result<Self, AllocError> {
+        Ok(Groups {
+            table: self.table.clone()?,
+        })
+    }
+}
+
 impl Groups {
     // No group.
     pub(crate) fn new(alloc: Global) -> Self

@@ -8,7 +8,8 @@
 //!
 //! A row that came by `take` can be taken out again, the last one first. This takes no memory, so a
 //! step that took in a row can be undone whatever happens after it. `take_all` does so with several
-//! rows, all or none, and `undo_all` takes them out again.
+//! rows, all or none, and `undo_all` takes them out again. `take_line` and `undo_line` do the same at
+//! less cost where there are fewer groups than rows.
 //!
 //! The rows themselves are not kept. So the contracts say what a state stands for: `IsFedWith` ties it to a
 //! list of rows. A new state stands for no row, each row that is fed makes it stand for one more row, and
@@ -19,6 +20,7 @@
 mod finish;
 mod groups;
 mod last_row;
+mod lines;
 mod running;
 mod several;
 pub mod state;
@@ -26,6 +28,7 @@ mod totals;
 mod undoing;
 
 pub use finish::Grouped;
+pub use lines::TakenLine;
 pub use state::GroupState;
 pub use std::alloc::AllocError as NoMemory;
 pub use undoing::Taken;

@@ -4,6 +4,7 @@ ghost use Rattle.std.specs.Prelude.{◌≡◌, ◌^◌, ◌<◌, ◌++◌, [], L
 ghost use Rattle.amber_rows.specs.Operators.{first_keys, refused_keys};
 ghost use Rattle.amber_rows.specs.declared.value.Value.{Value as Cell};
 ghost use Rattle.amber_group.specs.Group.{AreRowsOf, FeedsRow, IsFedWith};
+ghost use Rattle.amber_group.specs.Steps.{GroupsWithin};
 ghost use Rattle.amber_group.specs.Undoing.{CanUndo, TakesBack, restored};
 
 use crate::finish::Grouped;
@@ -136,6 +137,23 @@ impl GroupState {
     {
         self.groups.undo(taken);
         self.fed -= 1;
+    }
+
+    // A copy of the groups, to go back to.
+    pub(crate) fn copied_groups(&self) -> Result<Groups, AllocError>
+        ensures same { IfOk result (λ groups. groups ≡ self.now.groups) }
+        ensures within { IfOk result (GroupsWithin self.now.fed) }
+    {
+        self.groups.clone()
+    }
+
+    // Goes back to these groups, which were those of so many rows.
+    pub(crate) fn go_back(&mut self, fed: u64, groups: Groups)
+        requires { GroupsWithin fed groups }
+        ensures { self.new ≡ record self.old { fed = fed; groups = groups } }
+    {
+        self.fed = fed;
+        self.groups = groups;
     }
 
     /// A row for each key of the rows that it was fed: the key, and then its aggregates. A key with a sum

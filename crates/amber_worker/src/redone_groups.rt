@@ -4,11 +4,11 @@
 ghost use Rattle.std.specs.Prelude.{IfOk, OnErr, OnOk, filter, length, take, ◌+◌, ◌^◌, ◌≡◌, ◌≤◌};
 ghost use Rattle.amber_rows.specs.Suits.{suits_of};
 ghost use Rattle.amber_group.specs.Feeding.{FeedsEach};
-ghost use Rattle.amber_group.specs.Undoing.{TakeAllBack};
+ghost use Rattle.amber_group.specs.Lines.{TakesLineBack};
 ghost use Rattle.amber_worker.specs.Steps.{GivesGroups};
 
 use crate::readied::rows_once_over;
-use amber_group::{GroupState, Taken};
+use amber_group::{GroupState, TakenLine};
 use amber_rows::{Row, Schema};
 use std::alloc::{AllocError, Global};
 use std::collections::VecDeque;
@@ -16,7 +16,7 @@ use std::collections::VecDeque;
 // What takes the rows of a line out of the groups again, and the rows that are given at the end.
 #[derive(Drop)]
 pub(crate) struct Fed {
-    pub taken: Vec<Taken>,
+    pub taken: TakenLine,
     pub made: VecDeque<Row>,
 }
 
@@ -34,15 +34,15 @@ pub(crate) fn feed_rows(
     ensures each { OnOk result
         (FeedsEach (filter (suits_of columns.now) (take count rows.now.items)) state.old state.new) }
     ensures fed { OnOk result (state.new.fed ≤ state.old.fed + count) }
-    ensures back { IfOk result (λ fed. TakeAllBack fed.taken.items state.old state.new) }
+    ensures back { IfOk result (λ fed. TakesLineBack fed.taken state.old state.new) }
     ensures closes { IfOk result (λ fed. GivesGroups state.new over fed.made.items) }
     ensures err { OnErr result (state.new ≡ state.old) }
 {
-    let taken = state.take_all(alloc, rows, count, columns)?;
+    let taken = state.take_line(alloc, rows, count, columns)?;
     match rows_once_over(alloc, state, over) {
         Ok(made) => Ok(Fed { taken, made }),
         Err(error) => {
-            state.undo_all(taken);
+            state.undo_line(taken);
             Err(error)
         }
     }

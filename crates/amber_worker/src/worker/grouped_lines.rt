@@ -45,7 +45,7 @@ impl Worker {
         let offering = Offering::new(left, &gains.pending, &made, &self.when, waved);
         let may = settle(line, &offering, links, journal, &mut room);
         if !is_done(&may) {
-            state.undo_all(taken);
+            state.undo_line(taken);
             return may;
         }
         drop_all(batch, count, &mut gains.done);

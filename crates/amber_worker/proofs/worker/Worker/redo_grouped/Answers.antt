@@ -23,7 +23,7 @@ invariant_of-self-then-not-is_done c =
     let len : c.self.inside.outs.len ≡ length c.self.inside.outs.items = omega (arith, lent, c.as_mut_slice-links.ensures.len) in
     let stays : length c.settle-may.new.outs ≡ length c.self.inside.outs.items = omega (arith, lent, c.settle-may.auto.outs) in
     let same = c.settle-may.ensures.same_outs ∙ ap (map without_room) c.as_mut_slice-links.ensures.value in
-    let undone = c.undo_all.ensures ∙ c.in_ok-taken.ensures.back.back in
+    let undone = c.undo_line.ensures ∙ c.in_ok-taken.ensures.back.back in
     let kept = ap operator_state.Group undone ∙ sym c.in-Group.is in
     rw (c.settle-may.ensures.entries, written-back _ _ _ len stays)
     (few-sent _ _ (few-same _ _ _ kept refl c.self.invariant.typed c.self.invariant)
@@ -36,7 +36,7 @@ returns-then-not-is_done-clause-ok c =
     let len : c.self.inside.outs.len ≡ length c.self.inside.outs.items = omega (arith, lent, c.as_mut_slice-links.ensures.len) in
     let stays : length c.settle-may.new.outs ≡ length c.self.inside.outs.items = omega (arith, lent, c.settle-may.auto.outs) in
     let same = c.settle-may.ensures.same_outs ∙ ap (map without_room) c.as_mut_slice-links.ensures.value in
-    let undone = c.undo_all.ensures ∙ c.in_ok-taken.ensures.back.back in
+    let undone = c.undo_line.ensures ∙ c.in_ok-taken.ensures.back.back in
     let kept = ap operator_state.Group undone ∙ sym c.in-Group.is in
     let batch = group-batch c.self.inside.rest.share c.self.inside.operator_state c.in-Group.state c.in-Group.is c.self.invariant.scans in
     let w : WorkerState = the_view c.self.inside in
