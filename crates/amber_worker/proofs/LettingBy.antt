@@ -1,6 +1,7 @@
 -- Rows that are to be emitted, one after the other, and whether they hold a worker.
-use Rattle.std.proofs.Common.{◌≡◌, ℕ, zero, suc, ◌+◌, ◌-◌, ◌<◌, ◌≤◌, ◌&&◌, ◌||◌, not, List, [], ◌∷◌, ◌++◌, length, take, drop, get_or, Option, Bool, true, false, refl, sym, ap, ◌∙◌, arith, append_assoc}
+use Rattle.std.proofs.Common.{◌≡◌, ℕ, zero, suc, ◌+◌, ◌-◌, ◌<◌, ◌≤◌, ◌&&◌, ◌||◌, not, List, [], ◌∷◌, ◌++◌, length, take, drop, get_or, Option, Some, None, is_some, Bool, true, false, refl, sym, ap, ◌∙◌, arith, append_assoc}
 use Rattle.std.specs.List.{list_all}
+use Rattle.std.proofs.lemmas.Bool.{false≢true}
 use Rattle.std.proofs.lemmas.List.{drop_all, drop_more}
 use Rattle.amber_rows.specs.declared.value.Value.{Value}
 use Rattle.amber_rows.specs.declared.cond.Cond.{Cond}
@@ -37,3 +38,19 @@ fates-step when gate next fates rows i fate row passes less there is_fate is_row
 pub fates-end : (fates : List Fate) (rows : List (List Value)) (i : ℕ) → length fates ≤ i → (later : List (List Value)) → passed_by (drop i fates) (drop i rows) ++ later ≡ later
 unfolding passed_by
 fates-end fates rows i past later = ap (λ (l : List Fate). passed_by l (drop i rows) ++ later) (drop_all i fates past)
+
+-- ---- no condition
+
+none-watched : (rows : List (List Value)) → list_all (λ other. not (is_watched None other)) rows ≡ true
+none-watched [] = refl
+none-watched (row ∷ rows) = none-watched rows
+
+none-holds : (waved : Bool) (rows : List (List Value)) → pass_by None waved rows ≡ true
+none-holds waved [] = refl
+none-holds true (row ∷ rows) = none-watched rows
+none-holds false (row ∷ rows) = none-watched rows
+
+-- with none in force no row holds a worker
+pub lets-any : (when : Option Cond) (gate : Gate) (rows other : List (List Value)) → is_some when ≡ false → lets_by when gate rows ≡ lets_by when gate other
+lets-any None gate rows other none = none-holds gate.waved (take gate.left rows) ∙ sym (none-holds gate.waved (take gate.left other))
+lets-any (Some cond) gate rows other none = absurd (false≢true (sym none))

@@ -13,7 +13,7 @@ use crate::letting_by::{Gate, lets_fates_by, lets_pending_by, lets_rows_by};
 use crate::operator_state::OperatorState;
 use crate::pending::Pending;
 use crate::redone_joins::{MadeRows, probe_rows};
-use crate::redone_records::{count_rows, lets_records_by};
+use crate::redone_records::{Counted, count_rows, lets_records_by};
 use crate::redone_rows::{Fates, RowsLine, fates_of, fits};
 use crate::taking_rows::Rest;
 use crate::used_rows::UsedRows;
@@ -81,8 +81,7 @@ fn ready_records(rest: &mut Rest, columns: &Schema, count: usize) -> Result<Read
         unreachable!()
     };
     share.read_ahead(count)?;
-    let before = count_rows(share, columns, count.saturating_sub(1));
-    let made = count_rows(share, columns, count);
+    let Counted { before, made } = count_rows(share, columns, count);
     Ok(ReadiedRows::Records { before, made })
 }
 
@@ -163,6 +162,9 @@ fn lets_ready_by(
         → (result && lets_by when.now gate.new later)
         ≡ lets_by when.now gate.old (yielded_to how (arrivals_in rest.now) ++ later) }
 {
+    if when.is_none() {
+        return true;
+    }
     match readied {
         ReadiedRows::Records { .. } => {
             let Some(share) = &rest.share else {

@@ -1,7 +1,7 @@
 //! How the records of a scan's share that a line of a log takes are judged and taken, once they were read ahead. Rests on
 //! `letting_by`, and on `Share` of `amber_scan`.
 
-ghost use Rattle.std.specs.Prelude.{false, ◌≡◌, ◌+◌, ◌<◌, ◌≤◌, ◌++◌, ◌&&◌, List, None, Some, length, take, drop, vec_capacity, vec_len, MatchOption};
+ghost use Rattle.std.specs.Prelude.{false, ◌≡◌, ◌+◌, ◌-◌, ◌<◌, ◌≤◌, ◌++◌, ◌&&◌, List, None, Some, length, take, drop, vec_capacity, vec_len, MatchOption};
 ghost use Rattle.std.specs.VecDeque.{deque_capacity, deque_len};
 ghost use Rattle.amber_rows.specs.declared.value.Value.{Value as Cell};
 ghost use Rattle.amber_rows.specs.declared.column.Column.{Column};
@@ -41,17 +41,29 @@ fn made_of(one: &Scanned, columns: &Schema) -> u64
     }
 }
 
+// How many rows come of some records: of all of them but the last, and of all of them.
+#[derive(Clone, Copy)]
+pub(crate) struct Counted {
+    pub before: u64,
+    pub made: u64,
+}
+
 // How many rows come of the first records of those that were read ahead.
-pub(crate) fn count_rows(share: &Share, columns: &Schema, count: usize) -> u64
+pub(crate) fn count_rows(share: &Share, columns: &Schema, count: usize) -> Counted
     requires ready { count ≤ share.now.ready }
     requires there { count ≤ length share.now.left }
-    ensures { result ≡ length (yielded_records columns.now (take count share.now.left)) }
+    ensures before { result.before
+        ≡ length (yielded_records columns.now (take (count - 1) share.now.left)) }
+    ensures made { result.made
+        ≡ length (yielded_records columns.now (take count share.now.left)) }
 {
+    let mut before: u64 = 0;
     let mut made: u64 = 0;
     for i in 0..count {
+        before = made;
         made += made_of(share.at(i), columns);
     }
-    made
+    Counted { before, made }
 }
 
 // Whether a record does not hold the worker, if a row comes of it.

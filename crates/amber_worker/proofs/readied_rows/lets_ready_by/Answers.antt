@@ -1,13 +1,19 @@
 -- What comes of what is ready is looked at.
-use Rattle.std.proofs.Common.{◌≡◌, ◌≤◌, ◌++◌, ◌∙◌, List, ap, length, subst, sym, take}
+use Rattle.std.proofs.Common.{◌≡◌, ◌≤◌, ◌++◌, ◌∙◌, List, ap, length, not, subst, sym, take}
 use Rattle.amber_rows.specs.declared.column.Column.{Column}
 use Rattle.amber_scan.specs.Shares.{ShareState}
 use Rattle.amber_worker.specs.Fields.{arrivals_in}
-use Rattle.amber_worker.specs.ReadiedRows.{AreBuiltReady, AreKeptReady, AreMadeReady, AreRecordsReady, AreRowsReady, Reading}
+use Rattle.amber_worker.specs.ReadiedRows.{AreBuiltReady, AreKeptReady, AreMadeReady, AreRecordsReady, AreRowsReady, Reading, yielded_to}
 use Rattle.amber_worker.specs.RedoneRows.{lets_by, passed_by, yielded_records}
 use Rattle.amber_worker.specs.declared.taking_rows.Fate.{Fate}
+use Rattle.amber_worker.proofs.LettingBy.{lets-any}
 use Rattle.amber_worker.proofs.ReadiedFacts.{built-are, kept-are, made-are, records-are, rows-are, some-same}
 use Rattle.amber_worker.proofs.readied_rows.lets_ready_by.Goals as goal
+
+-- no condition is in force
+pub returns-then-is_none : goal.returns-then-is_none
+returns-then-is_none c how later count columns ready =
+    lets-any c.args.when.now c.args.gate.now later (yielded_to how (arrivals_in c.args.rest.now) ++ later) (c.is_none.ensures ∙ ap not c.if-is_none.true)
 
 pub lets_records_by-requires-clause-there : goal.lets_records_by-requires-clause-there
 lets_records_by-requires-clause-there c =

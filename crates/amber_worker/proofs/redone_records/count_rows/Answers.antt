@@ -1,5 +1,5 @@
 -- One record more is counted.
-use Rattle.std.proofs.Common.{◌∙◌, ap, arith, false, length, length-append, take}
+use Rattle.std.proofs.Common.{◌≡◌, ◌+◌, ◌-◌, ◌∙◌, ap, arith, false, length, length-append, sym, take}
 use Rattle.amber_meaning.specs.Task.{row_in}
 use Rattle.amber_scan.specs.declared.share.Scanned.{Scanned}
 use Rattle.amber_worker.specs.RedoneRows.{yielded_records}
@@ -13,4 +13,9 @@ loop-i-preserved c =
     let left = c.args.share.now.left in
     let next = flat-next (λ (one : Scanned). gives_if operator_state.Scan false (row_in c.args.columns.now one.what)) left c.loop-i.i c.at.result.now (omega (arith, c.loop-i-test.true, c.requires.there)) (c.at.ensures c.at.result.now) in
     let lengths = ap length next ∙ length-append (yielded_records c.args.columns.now (take c.loop-i.i left)) (gives_if operator_state.Scan false (row_in c.args.columns.now c.at.result.now.what)) in
-    (omega (arith, lengths, c.loop-i.invariant.0, c.made_of-made.ensures.is), omega (arith, c.loop-i.invariant.1, c.made_of-made.ensures.one))
+    let same : c.loop-i.i + 1 - 1 ≡ c.loop-i.i = omega arith in
+    record {
+      made = omega (arith, lengths, c.loop-i.invariant.made, c.made_of-made.ensures.is);
+      small = omega (arith, c.loop-i.invariant.small, c.made_of-made.ensures.one);
+      before = c.loop-i.invariant.made ∙ ap (λ n. length (yielded_records c.args.columns.now (take n left))) (sym same);
+    }
