@@ -87,7 +87,7 @@ item-place told name log one mid files place new =
     ∙ ap (λ b. with_file told name b) (sym (log_text-push log one))
 
 -- after a log an item that is torn changes nothing
-torn-item : (log : Log) (one : Item) (part : List ℕ) (x : ℕ) (xs : List ℕ) → IsLog log → IsItem one → part ++ x ∷ xs ≡ item_text one → IsReadAs (log_text log ++ part) log
+pub torn-item : (log : Log) (one : Item) (part : List ℕ) (x : ℕ) (xs : List ℕ) → IsLog log → IsItem one → part ++ x ∷ xs ≡ item_text one → IsReadAs (log_text log ++ part) log
 torn-item log one part x xs h i whole =
     elim (rw (take-front part (x ∷ xs) (item_text one) whole) at (reads-torn log one (length part) h i)) [
       | inl read ↦ read
@@ -99,7 +99,7 @@ torn-item log one part x xs h i whole =
 -- the log is as it was, and perhaps a torn item after it
 halted-log : (f : Failure) (told : Option Named) (d : Doing) (bytes : List ℕ) → IsWritten told d → d.after.files ≡ with_file told d.name bytes → d.after.got ≡ d.before.got
     → IsReadAs bytes d.old.log → (bytes ≡ log_text d.old.log) ⊎ ((f ≡ failure.LogFault) × HasTorn d bytes) → ClosesAs f false → IsHalted f told d
-unfolding replies
+unfolding replies AreInTime
 halted-log f told d bytes h place same read stands closed = record {
   last = [];
   left = d.command ∷ [];
@@ -111,7 +111,7 @@ halted-log f told d bytes h place same read stands closed = record {
   read = rw (append-nil d.old.log.items) read;
   stands = rw (append-nil d.old.log.items) (elim stands [ inl text ↦ inl text | inr torn ↦ inr (torn.0, refl, torn.1) ]);
   legal = rw (append-nil d.old.log.items) h.legal;
-  in_time = rw (append-nil d.old.log.items) h.in_time;
+  in_time = tt;
   commands = refl;
   split = refl;
   whole = λ n. refl;
@@ -123,7 +123,7 @@ halted-log f told d bytes h place same read stands closed = record {
 halted-item : (f : Failure) (told : Option Named) (d : Doing) (one : Item) (part rest : List ℕ) → IsWritten told d → IsNextItem d.old d.command one
     → d.after.files ≡ with_file told d.name (log_text (one_more d.old.log one)) → part ++ rest ≡ reply_to d.old one
     → (f ≢ failure.OutFault → part ≡ []) → Appends d.before.got d.after.got part → ClosesAs f (is_long_item one) → IsHalted f told d
-unfolding replies
+unfolding replies AreInTime
 halted-item f told d one part rest h item place split whole put closed = record {
   last = one ∷ [];
   left = [];
@@ -135,7 +135,7 @@ halted-item f told d one part rest h item place split whole put closed = record 
   read = reads-whole (one_more d.old.log one) item.legal.text;
   stands = inl refl;
   legal = item.legal;
-  in_time = items-in-time d.old d.command one h.in_time item;
+  in_time = (item.in_time, tt);
   commands = ap (λ c. c ∷ []) item.command;
   split = split ∙ sym (append-nil (reply_to d.old one));
   whole = whole;

@@ -11,7 +11,6 @@ use Rattle.amber_log.specs.declared.log.Log.{Log}
 use Rattle.amber_meaning.specs.InTime.{AreInTime}
 use Rattle.amber_meaning.specs.Legal.{IsLegal, IsUnaltered}
 use Rattle.amber_meaning.specs.Replay.{state_after}
-use Rattle.amber_meaning.specs.State.{start_of}
 use Rattle.amber_meaning.specs.Transcript.{replies}
 use Rattle.amber_leg.specs.Leg.{most_late}
 use Rattle.amber_debug.specs.Session.{IsNextInTime, Session, command_of, is_long_item, one_more, query_in}
@@ -38,10 +37,9 @@ pub record IsNextItem (d : Session) (done : Command) (one : Item) : Type 0 where
   pub legal : IsLegal (query_in d) (one_more d.log one)
   pub in_time : IsNextInTime d one
 
--- a debugger's log is legal and its legs stop in time, none was too long, and its file holds its text
+-- a debugger's log is legal, its last leg was not too long, and its file holds its text
 pub record IsWritten (told : Option Named) (d : Doing) : Type 0 where
   pub legal : IsLegal (query_in d.old) d.old.log
-  pub in_time : AreInTime (query_in d.old) most_late (start_of d.old.flow) d.old.log.items
   pub short : ends_long false d.old.log.items ≡ false
   pub place : d.before.files ≡ with_file told d.name (log_text d.old.log)
 
@@ -80,7 +78,7 @@ pub record IsHalted (f : Failure) (told : Option Named) (d : Doing) : Type 0 whe
   -- nothing is torn, unless the log could not be written
   pub stands : (bytes ≡ log_text (log_with d last)) ⊎ ((f ≡ failure.LogFault) × (last ≡ []) × HasTorn d bytes)
   pub legal : IsLegal (query_in d.old) (log_with d last)
-  pub in_time : AreInTime (query_in d.old) most_late (start_of d.old.flow) (d.old.log.items ++ last)
+  pub in_time : AreInTime (query_in d.old) most_late (state_after (query_in d.old) d.old.log.items) last
   pub commands : map command_of last ++ left ≡ d.command ∷ []
   pub split : part ++ rest ≡ replies (query_in d.old) (state_after (query_in d.old) d.old.log.items) last
   pub whole : f ≢ failure.OutFault → part ≡ []

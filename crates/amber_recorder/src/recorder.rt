@@ -151,8 +151,13 @@ impl<'a, R: Threads + Sync, G: Gate + Sync, W: Outside> Recorder<'a, R, G, W> {
         put_output(self.outside, reply)
     }
 
-    // Writes the item of a command that was done into the log, and then puts its reply.
-    fn report(&mut self, done: &Done) -> Result<(), Failure>
+    /// Writes what was done into the log, the text of an item or of several, and then puts the reply, each in one call.
+    ///
+    /// # Errors
+    ///
+    /// `LogFault` where the write failed: the log has a front part of the text, and nothing was put. `OutFault` where the put
+    /// failed: the sink got a front part of the reply. `NoMemory`: nothing was written, or all, and nothing was put.
+    pub fn report(&mut self, done: &Done) -> Result<(), Failure>
         requires there { IsThere (W.world self.old.outside.now).files self.old.log_name.now }
         ensures reports { ReportsItem result (record { name = self.old.log_name.now; done = done.now })
             (W.world self.old.outside.now) (W.world self.new.outside.now) }

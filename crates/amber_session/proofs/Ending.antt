@@ -111,7 +111,6 @@ open-short over long (one ∷ more) h e = open-short (is_last one) (is_long_item
 written : (o : Origin) (d : Doing) (lines : List (List ℕ)) → HasSpoken o (record { name = d.name; run = d.old; lines = lines }) d.before → IsWritten o.told d
 written o d lines h = record {
   legal = h.sound.legal;
-  in_time = h.sound.in_time;
   short = open-short false false d.old.log.items (λ e. e) h.sound.more;
   place = h.place;
 }
