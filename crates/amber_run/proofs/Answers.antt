@@ -39,7 +39,7 @@ refused-at s words result before mid got puts h named refuses tells =
       course = answers s words before mid result h.ran refused;
       complete = complete words before mid puts result late;
       puts_grew = puts-grow words before mid puts result late;
-      long = long-stopped s words before mid puts result h.ran h.counted refused (answers s words before mid result h.ran refused);
+      long = long-stopped s words before mid got puts result h.ran h.counted refuses.0 refused (answers s words before mid result h.ran refused);
       usage = λ is. usage-is s words before mid result h.ran refused is;
       bad_words = λ none. words-bad s words result h.words refused none;
       read_fault = λ is. read-is s words before mid result h.ran refused is;
@@ -76,7 +76,7 @@ answered-done x words before after h =
           (λ files read kept grew. absurd (omega (arith, grew, h.counted.2)));
       bad_words = λ none. words-ok words ((status.Ok ≡ status.Usage) ⊎ (status.Ok ≡ status.NoMemory)) h.words none;
       loads_grew = λ grew. absurd (omega (arith, grew, h.ran.0));
-      long = long-done words before after after.puts h.ran.1 (answers-ok words before after h.ran.1);
+      long = long-done words before after h.ran.1 (answers-ok words before after h.ran.1);
       usage = λ is. absurd cc;
       read_fault = λ is. absurd cc;
       log_fault = λ is. absurd cc;

@@ -17,7 +17,7 @@ use Rattle.amber_course.proofs.Following.{told-map}
 use Rattle.amber_run.specs.AnsweredByChange.{AnsweredBy, AnswersAreOne, BreaksBy, BreaksOffBy, Change, EndedBy, FulfilsBy, IsCause, IsUntouchedBy, StopsAreOne, StopsBy, StopsLongBy, SucceedsBy, ThenPuts, change_between, shown_in, showing}
 use Rattle.amber_run.specs.Answering.{IsBrokenOff, Fulfils, IsUntouched}
 use Rattle.amber_run.specs.Outcome.{Answered, Breaks, Ended, Stops, StopsLong, Succeeds}
-use Rattle.amber_run.specs.RunTask.{run_task_of}
+use Rattle.amber_run.specs.RunTask.{recover_task_of, run_task_of}
 use Rattle.amber_run.proofs.RunsShown.{done-from, done-to, keeps-then, leaves-from, leaves-to, puts-only, then-map}
 
 -- ---- a change
@@ -48,11 +48,13 @@ fulfils-to : (done : Job) (before after : World) → FulfilsBy done (change_betw
 fulfils-to (job.Plain inputs) before after h = h
 fulfils-to (job.Run run) before after h = done-to (run_task_of before run) after h
 fulfils-to (job.Replay r) before after h = h
+fulfils-to (job.Recover r) before after h = done-to (recover_task_of before r) after h
 
 fulfils-from : (done : Job) (before after : World) → Fulfils done before after → FulfilsBy done (change_between before after)
 fulfils-from (job.Plain inputs) before after h = h
 fulfils-from (job.Run run) before after h = done-from (run_task_of before run) after h
 fulfils-from (job.Replay r) before after h = h
+fulfils-from (job.Recover r) before after h = done-from (recover_task_of before r) after h
 
 breaks_off-to : (done : Job) (s : Failure) (line : List ℕ) (before after : World) → (s ≡ failure.OutFault → line ≡ []) → BreaksOffBy done s line (change_between before after)
     → ThenPuts (IsBrokenOff done s before) line after
@@ -61,6 +63,7 @@ breaks_off-to (job.Plain inputs) other line before after none h = absurd h
 breaks_off-to (job.Run run) s line before after none h = leaves-to (run_task_of before run) s line after h
 breaks_off-to (job.Replay r) failure.OutFault line before after none h = (after, h, subst (λ l. Appends after.got after.got l) (sym (none refl)) (Appends-nil after.got), refl)
 breaks_off-to (job.Replay r) other line before after none h = absurd h
+breaks_off-to (job.Recover r) s line before after none h = leaves-to (recover_task_of before r) s line after h
 
 breaks_off-from : (done : Job) (s : Failure) (line : List ℕ) (before world : World) (got : Option (List ℕ)) → (s ≡ failure.OutFault → line ≡ []) → IsBrokenOff done s before world
     → Appends world.got got line → BreaksOffBy done s line (change_to before world got)
@@ -75,6 +78,7 @@ breaks_off-from (job.Replay r) failure.OutFault line before world got none h p =
     let whole : part ++ line ≡ part = ap (λ l. part ++ l) (none refl) ∙ append-nil part in
     (h.0, (part, h.1.1, h.1.2, subst (λ text. Appends before.got got text) whole (Appends-trans before.got world.got got part line h.1.3 p)))
 breaks_off-from (job.Replay r) other line before world got none h p = absurd h
+breaks_off-from (job.Recover r) s line before world got none h p = leaves-from (recover_task_of before r) s line world got h p
 
 -- ---- what a call leaves
 

@@ -10,7 +10,7 @@ use Rattle.amber_io.specs.Folder.{Named, Told}
 use Rattle.amber_io.specs.World.{World}
 use Rattle.amber_log.specs.declared.command.Command.{Command}
 use Rattle.amber_log.specs.declared.log.Item.TheVariants as item
-use Rattle.amber_meaning.specs.Legal.{alters, query_over}
+use Rattle.amber_meaning.specs.Legal.{Query, alters, query_over}
 use Rattle.amber_meaning.specs.Total.{step_total}
 use Rattle.amber_run.specs.Answering.{IsBrokenOff}
 use Rattle.amber_course.specs.Course.{course_of}
@@ -41,11 +41,13 @@ open-none : (j : Job) (result : Status) → result ≡ status.NoMemory → IsJob
 open-none (job.Plain inputs) result e = rw e tt
 open-none (job.Run run) result e = rw e tt
 open-none (job.Replay r) result e = rw e tt
+open-none (job.Recover r) result e = rw e tt
 
 open-ok : (j : Job) → IsJobStatus j status.Ok
 open-ok (job.Plain inputs) = tt
 open-ok (job.Run run) = tt
 open-ok (job.Replay r) = tt
+open-ok (job.Recover r) = tt
 
 run-status : (t : RunTask) (s : Failure) (now : World) (result : Status) → Leaves t s now → result ≡ status_of s → IsRunStatus result
 run-status t failure.LogFault now result h e = rw e tt
@@ -62,6 +64,7 @@ open-broken (job.Plain inputs) other before mid result h e = absurd h
 open-broken (job.Run run) s before mid result h e = run-status _ s mid result h e
 open-broken (job.Replay r) failure.OutFault before mid result h e = rw e tt
 open-broken (job.Replay r) other before mid result h e = absurd h
+open-broken (job.Recover r) s before mid result h e = run-status _ s mid result h e
 
 answers-none : (r : Result Job Failure) (result : Status) (a b : ℕ) → result ≡ status.NoMemory → Answers r result a b
 answers-none (Ok j) result a b e = inl (open-none j result e)
@@ -130,11 +133,16 @@ not-both (Err t) s ok e = cc
 later-rose : (c d e : ℕ) → Rose c d → d ≤ e → Rose c e
 later-rose c d e rose le = omega (arith, rose, le)
 
--- where the script of a run alters nothing its query has too many steps
+-- where a script alters nothing its query has too many steps
+abbrev pub HasTooMany : List Command → Query → Type 0
+HasTooMany commands query = AlterNothing commands → most_steps < step_total query
+
+-- so it is with the script of a run or of a recovery
 abbrev IsOver : Result Job Failure → Type 0
 IsOver (Ok (job.Plain inputs)) = ⊥
-IsOver (Ok (job.Run run)) = AlterNothing run.commands → most_steps < step_total (query_over run.inputs.flow run.inputs.files run.batch_size most_steps)
+IsOver (Ok (job.Run run)) = HasTooMany run.commands (query_over run.inputs.flow run.inputs.files run.batch_size most_steps)
 IsOver (Ok (job.Replay r)) = ⊥
+IsOver (Ok (job.Recover r)) = HasTooMany r.commands (query_over r.inputs.flow r.inputs.files r.old.batch most_steps)
 IsOver (Err s) = ⊥
 
 -- memory ran out, the log or the sink failed, or the steps were too many
@@ -157,6 +165,7 @@ over-of : (r : Result Job Failure) (j : Job) (before mid : World) → r ≡ Ok j
 over-of r (job.Plain inputs) before mid e h = absurd h
 over-of r (job.Run run) before mid e h = rw e (λ nothing. h.1 (with-end run.commands nothing))
 over-of r (job.Replay one) before mid e h = absurd h
+over-of r (job.Recover one) before mid e h = rw e (λ nothing. h.1 (with-end one.commands nothing))
 
 late-long : (words : List (List ℕ)) (before mid : World) (puts : ℕ) (result : Status) → StopsLong words before mid → result ≡ status.Long → MayBeLate words result before mid puts
 late-long words before mid puts result (inl few) is =
@@ -203,6 +212,7 @@ within-over : (r : Result Job Failure) → MeetsLimit r → IsOver r → ⊥
 within-over (Ok (job.Plain inputs)) h over = over
 within-over (Ok (job.Run run)) h over = omega (arith, h.1, over h.0)
 within-over (Ok (job.Replay r)) h over = over
+within-over (Ok (job.Recover r)) h over = omega (arith, h.1, over h.0)
 within-over (Err s) h over = over
 
 -- with no count risen, and steps within the limit, only memory can be wanting
@@ -227,6 +237,11 @@ late-sink (Ok (job.Replay r)) result before mid puts late kept =
       | inr rest ↦ elim rest [ inl log ↦ absurd (kept log.1) | inr more ↦ elim more [ inl out ↦ inl out.0 | inr long ↦ absurd long.1 ] ]
     ]
 late-sink (Ok (job.Run run)) result before mid puts late kept =
+    elim (late refl) [
+      | inl none ↦ inr (inr none)
+      | inr rest ↦ elim rest [ inl log ↦ absurd (kept log.1) | inr more ↦ elim more [ inl out ↦ inl out.0 | inr long ↦ inr (inl long.0) ] ]
+    ]
+late-sink (Ok (job.Recover r)) result before mid puts late kept =
     elim (late refl) [
       | inl none ↦ inr (inr none)
       | inr rest ↦ elim rest [ inl log ↦ absurd (kept log.1) | inr more ↦ elim more [ inl out ↦ inl out.0 | inr long ↦ inr (inl long.0) ] ]

@@ -180,3 +180,4 @@ pub plain-job : (meant : Option Words) (read : Words) (j : Job) → meant ≡ So
 plain-job meant (form.Plain workflow) j e none is = is
 plain-job meant (form.Run words) j e none is = absurd (rw e at none)
 plain-job meant (form.Replay words) j e none is = is
+plain-job meant (form.Recover words) j e none is = absurd (rw e at none)

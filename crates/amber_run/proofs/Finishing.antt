@@ -1,5 +1,5 @@
 -- A run that has ended gives the sequential answer, and one that was too long has a query of too many steps.
-use Rattle.std.proofs.Common.{◌≡◌, ◌<◌, ◌⊎◌, inl, inr, List, [], ◌∷◌, ◌++◌, map, Result, Ok, Err, false, refl, sym, ap, subst, ◌∙◌}
+use Rattle.std.proofs.Common.{◌≡◌, ◌<◌, ◌⊎◌, inl, inr, List, [], ◌∷◌, ◌++◌, map, Result, Ok, Err, true, false, refl, sym, ap, subst, ◌∙◌}
 use Rattle.std.specs.Result.{MatchResult}
 use Rattle.std.proofs.lemmas.List.{append-nil, map-append}
 use Rattle.amber_rows.specs.FlowRules.{IsFlow}
@@ -11,9 +11,9 @@ use Rattle.amber_meaning.specs.Legal.{IsLegal}
 use Rattle.amber_meaning.specs.Total.{step_total}
 use Rattle.amber_debug.specs.Session.{Session, command_of}
 use Rattle.amber_io.specs.World.{World}
-use Rattle.amber_run.specs.UnderWay.{EndsTorn, Halts, HasAnswer, HasText, IsAt, IsLeft, IsUnderWay, Leaves, Opens, Worked, log_of_items}
+use Rattle.amber_run.specs.UnderWay.{EndsTorn, FailsAtBegun, Halts, HasAnswer, HasText, HasTornBegun, IsAt, IsLeft, IsUnderWay, Leaves, Opens, Worked, log_of_items}
 use Rattle.amber_run.specs.RunTask.{RunTask, end_alone, most_steps, query_at}
-use Rattle.amber_recorder.specs.Left.{AlterNothing}
+use Rattle.amber_recorder.specs.Left.{AlterNothing, ClosesAs, ends_long}
 use Rattle.amber_recorder.proofs.Halting.{ends_long-push, keeps-same}
 use Rattle.amber_recorder.proofs.Last.{EndsLong, end-answers, some-long, total-of, unaltered-items}
 use Rattle.amber_course.specs.declared.failure.Failure.{Failure}
@@ -60,17 +60,27 @@ same-size : (t : RunTask) (s : Failure) (now : World) → (h : IsLeft t s now) �
 same-size t s now h ends = by-form h.stands
   where
     by-form : HasText t (log_of_items h.batch (h.done ++ h.last)) h.bytes
-        ⊎ ((s ≡ failure.LogFault) × (h.last ≡ []) × EndsTorn t h.left (log_of_items h.batch (h.done ++ h.last)) h.bytes) → h.batch ≡ t.batch_size
+        ⊎ ((s ≡ failure.LogFault) × (h.last ≡ []) × EndsTorn t h.left (log_of_items h.batch (h.done ++ h.last)) h.bytes)
+        ⊎ ((s ≡ failure.LogFault) × (h.done ≡ []) × HasTornBegun t (log_of_items h.batch (h.done ++ h.last)) h.bytes) → h.batch ≡ t.batch_size
     by-form (inl text) = text.batch
-    by-form (inr (is, all, inl torn)) = torn.batch
-    by-form (inr (is, all, inr torn)) = absurd (no-push ends.front ends.one (sym (ap (λ (log : Log). log.items) torn.none) ∙ ends.split))
+    by-form (inr (inr torn)) = torn.2.batch
+    by-form (inr (inl (is, all, inl torn))) = torn.batch
+    by-form (inr (inl (is, all, inr torn))) = absurd (no-push ends.front ends.one (sym (ap (λ (log : Log). log.items) torn.none) ∙ ends.split))
+
+-- the last leg of what is left where the steps were as many as may be
+pub closes-long : (s : Failure) (begun done last : List Item) → s ≡ failure.Long → ClosesAs s (ends_long false (done ++ last)) ⊎ FailsAtBegun s begun done last
+    → ends_long false (done ++ last) ≡ true
+closes-long failure.Long begun done last e (inl long) = long
+closes-long failure.Long begun done last e (inr fails) = absurd (let two : failure.Long ≡ failure.OutFault = fails.0 in cc)
+closes-long other begun done last e h = cc
 
 pub too-long : (t : RunTask) (now : World) → IsFlow t.flow → IsLeft t failure.Long now → AlterNothing t.commands
     → most_steps < step_total (query_at t t.batch_size)
 too-long t now flow h nothing =
     let items = h.done ++ h.last in
+    let long = closes-long failure.Long t.begun h.done h.last refl h.closed in
     let unaltered = unaltered-items items h.left (subst AlterNothing (sym h.commands) nothing) in
-    rw (same-size t failure.Long now h (some-long items h.closed)) at (total-of (query_at t h.batch) (record { batch = h.batch; items = items }) flow h.legal unaltered h.closed)
+    rw (same-size t failure.Long now h (some-long items long)) at (total-of (query_at t h.batch) (record { batch = h.batch; items = items }) flow h.legal unaltered long)
 
 -- ---- the run
 
@@ -79,10 +89,10 @@ pub begin-failure : (s : Failure) (t : RunTask) → s ≡ failure.NoMemory → L
 begin-failure s t e = rw e (inl (inl refl, keeps-same t.before.got t.before.got refl))
 
 -- the log was not made
-pub opens-failure : (s : Failure) (t : RunTask) (log : Log) (now : World) → Opens {A = Unit {0}} (Err s) t log now → Leaves t s now
-opens-failure failure.LogFault t log now h = h
-opens-failure failure.NoMemory t log now h = inl h
-opens-failure other t log now h = absurd h
+pub opens-failure : (s : Failure) (t : RunTask) (now : World) → Opens {A = Unit {0}} (Err s) t now → Leaves t s now
+opens-failure failure.LogFault t now h = h
+opens-failure failure.NoMemory t now h = inl h
+opens-failure other t now h = absurd h
 
 -- a command was not done
 halts-failure : (s : Failure) (t : RunTask) (now : World) → IsFlow t.flow → Halts t now s → Leaves t s now

@@ -1,3 +1,6 @@
+pub mod Adding
+pub mod Begun
+pub mod GoingOn
 pub mod Texting
 pub mod Ending
 pub mod Refusing
@@ -11,3 +14,5 @@ pub mod Answers
 pub mod RunsShown
 pub mod ByChange
 pub mod Replaying
+pub mod Recovered
+pub mod Recovering

@@ -28,7 +28,7 @@ is-small : (m most : ℕ) → m ≤ most → nat_le m most ≡ true
 is-small m most h = grind (arith, nat_tests)
 
 -- the file is loaded, and read as the log
-log-read : (name : List ℕ) (files : Named) (log : Log) (bytes : List ℕ) → finmap.get files name ≡ Some bytes → length bytes ≤ most_log → read_of bytes ≡ Ok log → log_in name files ≡ Ok log
+pub log-read : (name : List ℕ) (files : Named) (log : Log) (bytes : List ℕ) → finmap.get files name ≡ Some bytes → length bytes ≤ most_log → read_of bytes ≡ Ok log → log_in name files ≡ Ok log
 unfolding log_in load_of
 log-read name files log bytes got few read = rw (got, is-small (length bytes) most_log few, read) refl
 
@@ -43,7 +43,7 @@ unfolding job_of
 job-read workflow name files inputs log read loaded got = rw (read, loaded, got) refl
 
 -- no line of the front is illegal
-none-illegal : (query : Query) (log : Log) → SendersFirst query.flow → IsLegal query log → illegal_line query log ≡ None
+pub none-illegal : (query : Query) (log : Log) → SendersFirst query.flow → IsLegal query log → illegal_line query log ≡ None
 none-illegal query log senders legal = (illegal_lines_are_first query log senders legal.text).0.1 legal
 
 pub fronts_are_replayed : FrontsAreReplayed

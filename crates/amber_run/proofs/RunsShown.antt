@@ -11,10 +11,10 @@ use Rattle.amber_meaning.specs.Total.{step_total}
 use Rattle.amber_meaning.specs.Transcript.{transcript_of}
 use Rattle.amber_course.specs.declared.failure.Failure.{Failure}
 use Rattle.amber_course.specs.declared.failure.Failure.TheVariants as failure
-use Rattle.amber_run.specs.AnsweredByChange.{EndsTornShown, HasTextShown, IsBareShown, IsDoneShown, IsItemShown, IsLeftShown, IsUnderWayShown, LeavesShown, TaskShown, ThenPuts, shown_in, showing}
+use Rattle.amber_run.specs.AnsweredByChange.{EndsTornShown, HasTextShown, HasTornBegunShown, IsBareShown, IsDoneShown, IsItemShown, IsLeftShown, IsUnderWayShown, LeavesShown, TaskShown, ThenPuts, shown_in, showing}
 use Rattle.amber_recorder.specs.Left.{AlterNothing}
 use Rattle.amber_run.specs.RunTask.{RunTask, most_steps, query_at}
-use Rattle.amber_run.specs.UnderWay.{EndsTorn, HasText, IsBare, IsDone, IsItemFor, IsLeft, IsUnderWay, Leaves}
+use Rattle.amber_run.specs.UnderWay.{EndsTorn, HasText, HasTornBegun, IsBare, IsDone, IsItemFor, IsLeft, IsUnderWay, Leaves}
 
 -- ---- known bytes
 
@@ -49,12 +49,15 @@ task_shown t = record {
   flow = t.flow;
   inputs = t.inputs;
   batch = t.batch_size;
+  begun = t.begun;
   commands = t.commands;
 }
 
 way-to : (t : RunTask) (left : List Command) (log : Log) (world : World) → IsUnderWayShown (task_shown t) left log (shown_in world) → IsUnderWay t left log world
 way-to t left log world h = record {
   batch = h.batch;
+  added = h.added;
+  items = h.items;
   legal = h.legal;
   in_time = h.in_time;
   commands = h.commands;
@@ -66,6 +69,8 @@ way-to t left log world h = record {
 way-from : (t : RunTask) (left : List Command) (log : Log) (world : World) → IsUnderWay t left log world → IsUnderWayShown (task_shown t) left log (shown_in world)
 way-from t left log world h = record {
   batch = h.batch;
+  added = h.added;
+  items = h.items;
   legal = h.legal;
   in_time = h.in_time;
   commands = h.commands;
@@ -116,17 +121,21 @@ torn-from t left log bytes (inl h) = inl (record {
 })
 torn-from t left log bytes (inr h) = inr (record { none = h.none; front = h.front })
 
-stands-to : (t : RunTask) (s : Failure) (last : List Item) (left : List Command) (log : Log) (bytes : List ℕ)
+stands-to : (t : RunTask) (s : Failure) (done last : List Item) (left : List Command) (log : Log) (bytes : List ℕ)
     → HasTextShown (task_shown t) log bytes ⊎ ((s ≡ failure.LogFault) × (last ≡ []) × EndsTornShown (task_shown t) left log bytes)
-    → HasText t log bytes ⊎ ((s ≡ failure.LogFault) × (last ≡ []) × EndsTorn t left log bytes)
-stands-to t s last left log bytes (inl h) = inl (record { batch = h.batch; text = h.text })
-stands-to t s last left log bytes (inr h) = inr (h.0, h.1, torn-to t left log bytes h.2)
+    ⊎ ((s ≡ failure.LogFault) × (done ≡ []) × HasTornBegunShown (task_shown t) log bytes)
+    → HasText t log bytes ⊎ ((s ≡ failure.LogFault) × (last ≡ []) × EndsTorn t left log bytes) ⊎ ((s ≡ failure.LogFault) × (done ≡ []) × HasTornBegun t log bytes)
+stands-to t s done last left log bytes (inl h) = inl (record { batch = h.batch; text = h.text })
+stands-to t s done last left log bytes (inr (inl h)) = inr (inl (h.0, h.1, torn-to t left log bytes h.2))
+stands-to t s done last left log bytes (inr (inr h)) = inr (inr (h.0, h.1, record { batch = h.2.batch; torn = h.2.torn; front = h.2.front; text = h.2.text }))
 
-stands-from : (t : RunTask) (s : Failure) (last : List Item) (left : List Command) (log : Log) (bytes : List ℕ)
-    → HasText t log bytes ⊎ ((s ≡ failure.LogFault) × (last ≡ []) × EndsTorn t left log bytes)
+stands-from : (t : RunTask) (s : Failure) (done last : List Item) (left : List Command) (log : Log) (bytes : List ℕ)
+    → HasText t log bytes ⊎ ((s ≡ failure.LogFault) × (last ≡ []) × EndsTorn t left log bytes) ⊎ ((s ≡ failure.LogFault) × (done ≡ []) × HasTornBegun t log bytes)
     → HasTextShown (task_shown t) log bytes ⊎ ((s ≡ failure.LogFault) × (last ≡ []) × EndsTornShown (task_shown t) left log bytes)
-stands-from t s last left log bytes (inl h) = inl (record { batch = h.batch; text = h.text })
-stands-from t s last left log bytes (inr h) = inr (h.0, h.1, torn-from t left log bytes h.2)
+    ⊎ ((s ≡ failure.LogFault) × (done ≡ []) × HasTornBegunShown (task_shown t) log bytes)
+stands-from t s done last left log bytes (inl h) = inl (record { batch = h.batch; text = h.text })
+stands-from t s done last left log bytes (inr (inl h)) = inr (inl (h.0, h.1, torn-from t left log bytes h.2))
+stands-from t s done last left log bytes (inr (inr h)) = inr (inr (h.0, h.1, record { batch = h.2.batch; torn = h.2.torn; front = h.2.front; text = h.2.text }))
 
 -- ---- a run that ended early
 
@@ -139,14 +148,15 @@ left-to t s line after h =
       batch = h.batch;
       done = h.done;
       last = h.last;
+      added = h.added;
       left = h.left;
       bytes = h.bytes;
       part = h.part;
       rest = h.rest;
       place = h.place;
-      few = h.few;
+      kept = h.kept;
       read = h.read;
-      stands = stands-to t s h.last h.left _ h.bytes h.stands;
+      stands = stands-to t s h.done h.last h.left _ h.bytes h.stands;
       legal = h.legal;
       in_time = h.in_time;
       commands = h.commands;
@@ -166,14 +176,15 @@ left-from t s line world got h p =
       batch = h.batch;
       done = h.done;
       last = h.last;
+      added = h.added;
       left = h.left;
       bytes = h.bytes;
       part = h.part;
       rest = h.rest;
       place = h.place;
-      few = h.few;
+      kept = h.kept;
       read = h.read;
-      stands = stands-from t s h.last h.left _ h.bytes h.stands;
+      stands = stands-from t s h.done h.last h.left _ h.bytes h.stands;
       legal = h.legal;
       in_time = h.in_time;
       commands = h.commands;

@@ -20,11 +20,12 @@ use Rattle.amber_meaning.specs.Transcript.{replies, reply_of, transcript_of}
 use Rattle.amber_meaning.proofs.Fronts.{transcripts_grow}
 use Rattle.amber_debug.specs.Session.{Grew, Session, command_of, is_long_item, one_more, query_in}
 use Rattle.amber_leg.specs.Leg.{most_late}
-use Rattle.amber_recorder.specs.Left.{HasTorn, IsHalted, IsNextItem, IsWritten, log_with}
+use Rattle.amber_recorder.specs.Left.{ClosesAs, HasTorn, IsHalted, IsNextItem, IsWritten, log_with}
 use Rattle.amber_recorder.specs.Recording.{Doing, MakesFile, Performs, reply_to}
-use Rattle.amber_recorder.proofs.Halting.{appends-none, ends_long-push, item-place, items-in-time, keeps-same, next-item, not-whole, performs-halts, take-front}
+use Rattle.amber_recorder.proofs.Halting.{appends-none, ends_long-push, item-place, keeps-same, next-item, not-whole, performs-halts, take-front}
 use Rattle.amber_run.specs.UnderWay.{Halts, HasText, HasTornHead, HasTornItem, IsAt, IsItemFor, IsLeft, IsUnderWay, Opens, log_of_items}
 use Rattle.amber_run.specs.RunTask.{IsSession, RunTask, query_at}
+use Rattle.amber_run.proofs.Adding.{added-in-time, item-in-time}
 use Rattle.amber_course.specs.declared.failure.Failure.{Failure}
 use Rattle.amber_course.specs.declared.failure.Failure.TheVariants as failure
 use Rattle.amber_course.proofs.Lines.{appends-on}
@@ -35,11 +36,13 @@ legal-start : (t : RunTask) (batch : ℕ) → IsBatch batch → IsLegal (query_a
 unfolding AreItems Reaches
 legal-start t batch h = record { text = record { batch = h; items = tt }; batch = refl; after = start_of t.flow; reached = refl }
 
-stands-start : (t : RunTask) (batch : ℕ) (now : World) → IsBatch batch → t.batch_size ≡ batch → now.files ≡ with_file t.before.files t.name (head_text batch)
-    → now.got ≡ t.before.got → IsUnderWay t t.commands (log_of_items batch []) now
+pub stands-start : (t : RunTask) (batch : ℕ) (now : World) → IsBatch batch → t.batch_size ≡ batch → now.files ≡ with_file t.before.files t.name (head_text batch)
+    → now.got ≡ t.before.got → t.begun ≡ [] → IsUnderWay t t.commands (log_of_items batch []) now
 unfolding log_text transcript_of replies AreInTime
-stands-start t batch now h is place same = record {
+stands-start t batch now h is place same fresh = record {
   batch = sym is;
+  added = [];
+  items = ap (λ begun. begun ++ []) (sym fresh);
   legal = legal-start t batch h;
   in_time = tt;
   commands = refl;
@@ -48,37 +51,46 @@ stands-start t batch now h is place same = record {
   short = refl;
 }
 
--- a log of no item, whose head was written, or is torn
-left-head : (t : RunTask) (bytes : List ℕ) (batch : ℕ) (now : World) → IsBatch batch → IsReadAs bytes (log_of_items batch [])
-    → HasText t (log_of_items batch []) bytes ⊎ HasTornHead t (log_of_items batch []) bytes → now.files ≡ with_file t.before.files t.name bytes → now.got ≡ t.before.got
-    → IsLeft t failure.LogFault now
-unfolding transcript_of replies AreInTime
-left-head t bytes batch now h read stands place same = record {
+-- the head was written, or is torn if the log could not be written
+pub HasHead : RunTask → Failure → ℕ → List ℕ → Type 0
+HasHead t s batch bytes = HasText t (log_of_items batch []) bytes ⊎ ((s ≡ failure.LogFault) × HasTornHead t (log_of_items batch []) bytes)
+
+-- a log of no item
+pub left-head : (t : RunTask) (s : Failure) (bytes : List ℕ) (batch : ℕ) (now : World) → IsBatch batch → IsReadAs bytes (log_of_items batch []) → HasHead t s batch bytes
+    → now.files ≡ with_file t.before.files t.name bytes → now.got ≡ t.before.got → ClosesAs s false → IsLeft t s now
+unfolding transcript_of replies AreInTime HasHead
+left-head t s bytes batch now h read stands place same closed = record {
   batch = batch;
   done = [];
   last = [];
+  added = [];
   left = t.commands;
   bytes = bytes;
   part = [];
   rest = [];
   place = place;
-  few = omega arith;
+  kept = inr (t.begun, refl, refl, refl);
   read = read;
-  stands = elim stands [ inl text ↦ inl text | inr torn ↦ inr (refl, refl, inr torn) ];
+  stands = elim stands [ inl text ↦ inl text | inr torn ↦ inr (inl (torn.0, refl, inr torn.1)) ];
   legal = legal-start t batch h;
   in_time = tt;
   commands = refl;
   split = refl;
   whole = λ n. refl;
   sent = appends-none t.before.got now.got same;
-  closed = tt;
+  closed = inl closed;
 }
+
+-- it was written whole
+pub has-head : (t : RunTask) (s : Failure) → HasHead t s t.batch_size (head_text t.batch_size)
+unfolding HasHead
+has-head t s = inl (record { batch = refl; text = sym (log_text-head t.batch_size) })
 
 no-items : AreItems false []
 unfolding AreItems
 no-items = tt
 
-head-read : (batch : ℕ) → IsBatch batch → IsReadAs (head_text batch) (log_of_items batch [])
+pub head-read : (batch : ℕ) → IsBatch batch → IsReadAs (head_text batch) (log_of_items batch [])
 head-read batch h =
     subst (λ text. IsReadAs text (log_of_items batch [])) (log_text-head batch) (reads-whole (log_of_items batch []) (record { batch = h; items = no-items }))
 
@@ -95,8 +107,9 @@ torn-read batch part x xs h whole =
 
 -- whatever became of it
 pub opens-made : (r : Result (Unit {0}) Failure) (t : RunTask) (batch : ℕ) (now : World) → IsBatch batch → t.batch_size ≡ batch
-    → MakesFile r (record { name = t.name; bytes = head_text batch }) t.before now → now.got ≡ t.before.got → Opens r t (log_of_items batch []) now
-opens-made (Ok x) t batch now h is made same = stands-start t batch now h is made same
+    → MakesFile r (record { name = t.name; bytes = head_text batch }) t.before now → now.got ≡ t.before.got → Opens r t now
+unfolding HasHead
+opens-made (Ok x) t batch now h is made same = (made ∙ ap (λ n. with_file t.before.files t.name (head_text n)) (sym is), same)
 opens-made (Err failure.LogFault) t batch now h is (inl unmade) same = inl (unmade, keeps-same t.before.got now.got same)
 opens-made (Err failure.LogFault) t batch now h is (inr (part, rest, split, new)) same =
     inr (by-rest rest split)
@@ -104,9 +117,9 @@ opens-made (Err failure.LogFault) t batch now h is (inr (part, rest, split, new)
     by-rest : (rest : List ℕ) → part ++ rest ≡ head_text batch → IsLeft t failure.LogFault now
     by-rest [] whole =
         let all : part ≡ head_text batch = sym (append-nil part) ∙ whole in
-        left-head t part batch now h (rw all (head-read batch h)) (inl (record { batch = sym is; text = all ∙ sym (log_text-head batch) })) new same
+        left-head t failure.LogFault part batch now h (rw all (head-read batch h)) (inl (record { batch = sym is; text = all ∙ sym (log_text-head batch) })) new same tt
     by-rest (x ∷ xs) whole =
-        left-head t part 400 now empty-batch (torn-read batch part x xs h whole) (inr (record { none = refl; front = (x ∷ xs, whole ∙ ap head_text (sym is), λ e. cc) })) new same
+        left-head t failure.LogFault part 400 now empty-batch (torn-read batch part x xs h whole) (inr (refl, record { none = refl; front = (x ∷ xs, whole ∙ ap head_text (sym is), λ e. cc) })) new same tt
 opens-made (Err failure.NoMemory) t batch now h is (inl stays) same = (inl stays, keeps-same t.before.got now.got same)
 opens-made (Err failure.NoMemory) t batch now h is (inr made) same = (inr (inr made), keeps-same t.before.got now.got same)
 opens-made (Err other) t batch now h is made same = absurd made
@@ -124,7 +137,6 @@ query-back t d h = sym (session-query t d h)
 written-at : (t : RunTask) (left : List Command) (d : Doing) → d.name ≡ t.name → IsAt t left d.old d.before → IsWritten t.before.files d
 written-at t left d is h = record {
   legal = subst (λ query. IsLegal query d.old.log) (query-back t d.old h.session) h.way.legal;
-  in_time = subst (λ (query : Query). AreInTime query most_late (start_of query.flow) d.old.log.items) (query-back t d.old h.session) h.way.in_time;
   short = h.way.short;
   place = h.way.place ∙ ap (λ name. with_file t.before.files name (log_text d.old.log)) (sym is);
 }
@@ -166,25 +178,27 @@ left-halted t left f d is h halted =
       batch = d.old.log.batch;
       done = done;
       last = halted.last;
+      added = h.way.added ++ halted.last;
       left = halted.left ++ left;
       bytes = halted.bytes;
       part = halted.part;
       rest = halted.rest;
       place = halted.place ∙ ap (λ name. with_file t.before.files name halted.bytes) is;
-      few = halted.few;
+      kept = inl (h.way.added, h.way.items, refl, halted.few);
       read = halted.read;
       stands = elim halted.stands [
         | inl text ↦ inl (record { batch = h.way.batch; text = text })
-        | inr torn ↦ inr (torn.0, torn.1, inl (torn-for t left d halted.bytes halted.last halted.left h torn.1 halted.commands torn.2))
+        | inr torn ↦ inr (inl (torn.0, torn.1, inl (torn-for t left d halted.bytes halted.last halted.left h torn.1 halted.commands torn.2)))
       ];
       legal = subst (λ query. IsLegal query (log_with d halted.last)) query halted.legal;
-      in_time = subst (λ (query : Query). AreInTime query most_late (start_of query.flow) (done ++ halted.last)) query halted.in_time;
+      in_time = added-in-time (query_at t d.old.log.batch) most_late t.begun h.way.added done halted.last h.way.items h.way.in_time
+          (subst (λ query. AreInTime query most_late (state_after query done) halted.last) query halted.in_time);
       commands = ap (λ c. c ++ (halted.left ++ left)) (map-append command_of done halted.last) ∙ append_assoc (map command_of done) (map command_of halted.last) (halted.left ++ left)
           ∙ ap (λ c. map command_of done ++ c) (sym (append_assoc (map command_of halted.last) halted.left left) ∙ ap (λ c. c ++ left) halted.commands) ∙ h.way.commands;
       split = subst (λ query. halted.part ++ halted.rest ≡ replies query (state_after query done) halted.last) query halted.split;
       whole = halted.whole;
       sent = appends-on t.before.got d.before.got d.after.got (transcript_of (query_at t d.old.log.batch) done) halted.part h.way.sent halted.sent;
-      closed = halted.closed;
+      closed = inl halted.closed;
     }
 
 session-next : (t : RunTask) (old new : Session) (done : Command) (one : Item) → IsSession t old → Grew old new done one → IsSession t new
@@ -202,9 +216,10 @@ stands-next t left d one is h item file short put =
     ap (λ query. reply_of query (state_after query log.items) one) (session-query t d.old h.session) in
     record {
       batch = h.way.batch;
+      added = h.way.added ++ one ∷ [];
+      items = ap (λ items. items ++ one ∷ []) h.way.items ∙ append_assoc t.begun h.way.added (one ∷ []);
       legal = for.legal;
-      in_time = subst (λ (query : Query). AreInTime query most_late (start_of query.flow) (log.items ++ one ∷ [])) (session-query t d.old h.session)
-          (items-in-time d.old d.command one (written-at t (d.command ∷ left) d is h).in_time item);
+      in_time = item-in-time query most_late t.begun h.way.added log.items one h.way.items h.way.in_time for.in_time;
       commands = ap (λ c. c ++ left) (map-append command_of log.items (one ∷ []) ∙ ap (λ c. map command_of log.items ++ c ∷ []) for.command)
           ∙ append_assoc (map command_of log.items) (d.command ∷ []) left ∙ h.way.commands;
       place = item-place t.before.files t.name log one d.before.files d.after.files h.way.place (file ∙ ap (λ name. with_more d.before.files name (item_text one)) is);

@@ -1,6 +1,7 @@
 -- What a call answers and leaves, told by what is shown before and after it and by what has changed. `Answered` names what there was
 -- before an error's line; here the part of the line that was put stands as one with what was put before it.
 use Rattle.std.specs.Prelude.{◌≡◌, ◌≢◌, ℕ, ◌-◌, ◌^◌, ◌<◌, ◌≤◌, ◌⊎◌, List, [], ◌∷◌, ◌++◌, length, map, Option, None, Ok, Err, false, ◌↔◌, ⊤}
+use Rattle.std.specs.List.{flat_map}
 use Rattle.std.specs.Io.KnownBytes.{Appends}
 use Rattle.amber_io.specs.Counts.{Rose}
 use Rattle.amber_io.specs.Folder.{Named, Told, with_file, without_file}
@@ -17,7 +18,6 @@ use Rattle.amber_meaning.specs.InTime.{AreInTime, IsInTime}
 use Rattle.amber_meaning.specs.Legal.{IsLegal, IsUnaltered, Query, query_over}
 use Rattle.amber_meaning.specs.Plain.{answer_of}
 use Rattle.amber_meaning.specs.Replay.{state_after}
-use Rattle.amber_meaning.specs.State.{start_of}
 use Rattle.amber_meaning.specs.Texts.{answer_text}
 use Rattle.amber_meaning.specs.Total.{step_total}
 use Rattle.amber_meaning.specs.Transcript.{replies, reply_of, transcript_of}
@@ -27,6 +27,7 @@ use Rattle.amber_course.specs.Steps.{Names, Tells}
 use Rattle.amber_course.specs.Words.{call_words_of}
 use Rattle.amber_course.specs.declared.job.Job.{Job}
 use Rattle.amber_course.specs.declared.job.Job.TheVariants as job
+use Rattle.amber_course.specs.declared.job.RecoverJob.{RecoverJob}
 use Rattle.amber_course.specs.declared.job.RunJob.{RunJob}
 use Rattle.amber_course.specs.declared.status.Status.{Status}
 use Rattle.amber_course.specs.declared.status.Status.TheVariants as status
@@ -37,7 +38,7 @@ use Rattle.amber_leg.specs.Leg.{most_late}
 use Rattle.amber_laws.specs.CountStops.{StopForCounts}
 use Rattle.amber_run.specs.Answering.{replay_text}
 use Rattle.amber_run.specs.RunTask.{end_alone, most_steps}
-use Rattle.amber_run.specs.UnderWay.{log_of_items}
+use Rattle.amber_run.specs.UnderWay.{AreKept, FailsAtBegun, log_of_items}
 use Rattle.amber_recorder.specs.Left.{AlterNothing, ClosesAs, IsTorn, ends_long}
 use Rattle.amber_run.specs.Outcome.{Answered, Answers, AsksFor, AsksNoRun, IsSinkStatus, MeetsLimit, Stops, TellsLong}
 
@@ -88,6 +89,8 @@ pub record TaskShown : Type 0 where
   pub inputs : List (List ℕ)
   -- how many rows a batch has
   pub batch : ℕ
+  -- the items of an old log from which the run goes on
+  pub begun : List Item
   -- the script's commands, then the one to run to the end
   pub commands : List Command
 
@@ -104,17 +107,33 @@ task_shown before run = record {
   flow = run.inputs.flow;
   inputs = run.inputs.files;
   batch = run.batch_size;
+  begun = [];
   commands = run.commands ++ end_alone;
+}
+
+-- a recovery is to do the commands of its script behind those of the old log, and then to go to the end
+abbrev pub recovery_shown : Shown → RecoverJob → TaskShown
+recovery_shown before r = record {
+  told = before.files;
+  before = before.got;
+  name = r.log;
+  flow = r.inputs.flow;
+  inputs = r.inputs.files;
+  batch = r.old.batch;
+  begun = r.old.items;
+  commands = r.commands ++ end_alone;
 }
 
 -- ---- how far a run has come
 
--- the log's file holds the text of a legal log, whose legs stop in time, all other files are as before, and the sink got the log's
--- transcript; `left` are the commands that are still to be done
+-- the log's file holds the text of a legal log, which begins with the items from which the run goes on and whose legs behind them stop
+-- in time, all other files are as before, and the sink got the log's transcript; `left` are the commands that are still to be done
 pub record IsUnderWayShown (t : TaskShown) (left : List Command) (log : Log) (shown : Shown) : Type 0 where
   pub batch : log.batch ≡ t.batch
+  pub added : List Item
+  pub items : log.items ≡ t.begun ++ added
   pub legal : IsLegal (query_shown t log.batch) log
-  pub in_time : AreInTime (query_shown t log.batch) most_late (start_of t.flow) log.items
+  pub in_time : AreInTime (query_shown t log.batch) most_late (state_after (query_shown t log.batch) t.begun) added
   pub commands : map command_of log.items ++ left ≡ t.commands
   pub place : shown.files ≡ with_file t.told t.name (log_text log)
   pub sent : Appends t.before shown.got (transcript_of (query_shown t log.batch) log.items)
@@ -162,6 +181,13 @@ pub record HasTornHeadShown (t : TaskShown) (log : Log) (bytes : List ℕ) : Typ
   pub none : log ≡ empty_log
   pub front : IsTorn bytes (head_text t.batch)
 
+-- the file holds the head and after it the items from which the run goes on, torn
+pub record HasTornBegunShown (t : TaskShown) (log : Log) (bytes : List ℕ) : Type 0 where
+  pub batch : log.batch ≡ t.batch
+  pub torn : List ℕ
+  pub front : IsTorn torn (flat_map item_text t.begun)
+  pub text : bytes ≡ head_text t.batch ++ torn
+
 -- the last piece that was to be written into the file is torn
 abbrev pub EndsTornShown : TaskShown → List Command → Log → List ℕ → Type 0
 EndsTornShown t left log bytes = HasTornItemShown t left log bytes ⊎ HasTornHeadShown t log bytes
@@ -169,13 +195,15 @@ EndsTornShown t left log bytes = HasTornItemShown t left log bytes ⊎ HasTornHe
 -- ---- a run that ended early
 
 -- the log's file reads as a legal log, whose legs stop in time and whose commands are the first of those to be done, and all other
--- files are as before. The sink got the replies to all items, where that to the last may be missing, or cut if the sink failed; then a
--- line
+-- files are as before. The sink got the replies to all items, where that to the last may be missing, or cut if the sink failed, and the
+-- items from which the run goes on count as one; then a line
 pub record IsLeftShown (t : TaskShown) (s : Failure) (line : List ℕ) (shown : Shown) : Type 0 where
   -- the log: its batch size, the items that were replied to, and perhaps one more
   pub batch : ℕ
   pub done : List Item
   pub last : List Item
+  -- the items behind those from which the run goes on
+  pub added : List Item
   -- the commands that are in none of them
   pub left : List Command
   -- the file's bytes
@@ -184,18 +212,19 @@ pub record IsLeftShown (t : TaskShown) (s : Failure) (line : List ℕ) (shown : 
   pub part : List ℕ
   pub rest : List ℕ
   pub place : shown.files ≡ with_file t.told t.name bytes
-  pub few : length last ≤ 1
+  pub kept : AreKept t.begun done last added
   pub read : IsReadAs bytes (log_of_items batch (done ++ last))
-  -- nothing is torn, unless the log could not be written after the reply to the last item
+  -- nothing is torn, unless the log could not be written: after the reply to the last item, or at the items from which the run goes on
   pub stands : HasTextShown t (log_of_items batch (done ++ last)) bytes
       ⊎ ((s ≡ failure.LogFault) × (last ≡ []) × EndsTornShown t left (log_of_items batch (done ++ last)) bytes)
+      ⊎ ((s ≡ failure.LogFault) × (done ≡ []) × HasTornBegunShown t (log_of_items batch (done ++ last)) bytes)
   pub legal : IsLegal (query_shown t batch) (log_of_items batch (done ++ last))
-  pub in_time : AreInTime (query_shown t batch) most_late (start_of t.flow) (done ++ last)
+  pub in_time : AreInTime (query_shown t batch) most_late (state_after (query_shown t batch) t.begun) added
   pub commands : map command_of (done ++ last) ++ left ≡ t.commands
   pub split : part ++ rest ≡ replies (query_shown t batch) (state_after (query_shown t batch) done) last
   pub whole : s ≢ failure.OutFault → part ≡ []
   pub sent : Appends t.before shown.got (transcript_of (query_shown t batch) done ++ (part ++ line))
-  pub closed : ClosesAs s (ends_long false (done ++ last))
+  pub closed : ClosesAs s (ends_long false (done ++ last)) ⊎ FailsAtBegun s t.begun done last
 
 -- the log's file is as before, absent or empty, all other files are as before, and the sink got a line alone
 abbrev pub IsBareShown : TaskShown → List ℕ → Shown → Type 0
@@ -221,6 +250,7 @@ abbrev pub FulfilsBy : Job → Change → Type 0
 FulfilsBy (job.Plain inputs) change = IsUntouchedBy (answer_text inputs.flow (answer_of inputs.flow inputs.files)) change
 FulfilsBy (job.Run run) change = IsDoneShown (task_shown change.before run) change.now
 FulfilsBy (job.Replay r) change = IsUntouchedBy (replay_text r) change
+FulfilsBy (job.Recover r) change = IsDoneShown (recovery_shown change.before r) change.now
 
 -- the job was broken off, and a line was put after it: for `plain` the sink failed, which got a front part of that text alone
 abbrev pub BreaksOffBy : Job → Failure → List ℕ → Change → Type 0
@@ -231,6 +261,7 @@ BreaksOffBy (job.Run run) s line change = LeavesShown (task_shown change.before 
 BreaksOffBy (job.Replay r) failure.OutFault line change =
     (change.now.files ≡ change.before.files) × Begins change.before.got change.now.got (replay_text r)
 BreaksOffBy (job.Replay r) other line change = ⊥
+BreaksOffBy (job.Recover r) s line change = LeavesShown (recovery_shown change.before r) s line change.now
 
 -- ---- what a call leaves
 
@@ -301,7 +332,7 @@ pub record AnsweredBy (words : List (List ℕ)) (result : Status) (before after 
   pub puts_grew : Told before.files (λ files. ¬ (Rose before.loads after.loads) → ¬ (Rose before.writes after.writes)
       → before.puts < after.puts → IsSinkStatus (course_of words files) result)
   pub long : Told before.files (λ files. (job : Job) → AsksFor words files job
-      → ¬ (Rose before.loads after.loads) → ¬ (Rose before.writes after.writes) → TellsLong job result before.files after.files)
+      → ¬ (Rose before.loads after.loads) → ¬ (Rose before.writes after.writes) → TellsLong job result before after)
   -- which status it is, over any files
   pub usage : result ≡ status.Usage → call_words_of words ≡ None
   pub bad_words : call_words_of words ≡ None → (result ≡ status.Usage) ⊎ (result ≡ status.NoMemory)
@@ -312,7 +343,7 @@ pub record AnsweredBy (words : List (List ℕ)) (result : Status) (before after 
   pub writes_grew : before.writes < after.writes → (result ≡ status.LogFault) ⊎ (result ≡ status.NoMemory)
   pub out_fault : result ≡ status.OutFault → Rose before.puts after.puts
   pub quiet : result ≡ status.Ok → (after.loads ≡ before.loads) × (after.writes ≡ before.writes) × (after.puts ≡ before.puts)
-  -- what stays where no run is asked for, whatever the status is
+  -- what stays where no run is asked for, nor one to be gone on with, whatever the status is
   pub same : AsksNoRun (call_words_of words) → after.files ≡ before.files
   pub writes : AsksNoRun (call_words_of words) → after.writes ≡ before.writes
   pub unlogged : AsksNoRun (call_words_of words) → result ≢ status.LogFault

@@ -7,11 +7,12 @@ use Rattle.amber_io.specs.Folder.{Named, Told, with_file}
 use Rattle.amber_io.specs.World.{PutsOnly, World}
 use Rattle.amber_log.specs.ReadAs.{IsReadAs}
 use Rattle.amber_log.specs.declared.log.Log.{Log}
-use Rattle.amber_meaning.specs.Legal.{query_over}
+use Rattle.amber_log.specs.declared.command.Command.{Command}
+use Rattle.amber_meaning.specs.Legal.{Query, query_over}
 use Rattle.amber_meaning.specs.Plain.{row_total}
 use Rattle.amber_meaning.specs.Total.{step_total}
 use Rattle.amber_run.specs.Answering.{IsBrokenOff, Fulfils, IsUntouched}
-use Rattle.amber_course.specs.Course.{IsReached, course_of, job_of, most_rows}
+use Rattle.amber_course.specs.Course.{IsReached, course_of, job_of, most_rows, require_limit}
 use Rattle.amber_run.specs.RunTask.{most_steps}
 use Rattle.amber_recorder.specs.Left.{AlterNothing, ends_long}
 use Rattle.amber_course.specs.Words.{call_words_of}
@@ -49,17 +50,23 @@ abbrev pub IsJobStatus : Job → Status → Type 0
 IsJobStatus (job.Plain inputs) result = IsPrintStatus result
 IsJobStatus (job.Run run) result = IsRunStatus result
 IsJobStatus (job.Replay r) result = IsPrintStatus result
+IsJobStatus (job.Recover r) result = IsRunStatus result
 
 -- the course decides the status, unless memory runs out and for reads that failed, which raise the count of failed loads
 abbrev pub Answers : Result Job Failure → Status → ℕ → ℕ → Type 0
 Answers (Ok job) result old new = IsJobStatus job result ⊎ ((result ≡ status.ReadFault) × Rose old new)
 Answers (Err s) result old new = (result ≡ status_of s) ⊎ (result ≡ status.NoMemory) ⊎ ((result ≡ status.ReadFault) × Rose old new)
 
--- the course has a job, which meets the limit on its steps: by a script that alters nothing, and whose query has so many steps at most
+-- a script alters nothing, and its query has so many steps at most as a run may make
+abbrev pub MeetsSteps : List Command → Query → Type 0
+MeetsSteps commands query = AlterNothing commands × (step_total query ≤ most_steps)
+
+-- the course has a job, which meets the limit on its steps
 abbrev pub MeetsLimit : Result Job Failure → Type 0
 MeetsLimit (Ok (job.Plain inputs)) = ⊤
-MeetsLimit (Ok (job.Run run)) = AlterNothing run.commands × (step_total (query_over run.inputs.flow run.inputs.files run.batch_size most_steps) ≤ most_steps)
+MeetsLimit (Ok (job.Run run)) = MeetsSteps run.commands (query_over run.inputs.flow run.inputs.files run.batch_size most_steps)
 MeetsLimit (Ok (job.Replay r)) = ⊤
+MeetsLimit (Ok (job.Recover r)) = MeetsSteps r.commands (query_over r.inputs.flow r.inputs.files r.old.batch most_steps)
 MeetsLimit (Err s) = ⊥
 
 -- the statuses where the course has a job and only the sink has failed
@@ -67,14 +74,16 @@ abbrev pub IsSinkStatus : Result Job Failure → Status → Type 0
 IsSinkStatus (Ok (job.Plain inputs)) result = (result ≡ status.OutFault) ⊎ (result ≡ status.NoMemory)
 IsSinkStatus (Ok (job.Run run)) result = (result ≡ status.OutFault) ⊎ (result ≡ status.Long) ⊎ (result ≡ status.NoMemory)
 IsSinkStatus (Ok (job.Replay r)) result = (result ≡ status.OutFault) ⊎ (result ≡ status.NoMemory)
+IsSinkStatus (Ok (job.Recover r)) result = (result ≡ status.OutFault) ⊎ (result ≡ status.Long) ⊎ (result ≡ status.NoMemory)
 IsSinkStatus (Err s) result = ⊤
 
--- the words do not ask for a run
+-- the words ask for no run and for none to be gone on with
 abbrev pub AsksNoRun : Option Words → Type 0
 AsksNoRun None = ⊤
 AsksNoRun (Some (form.Plain workflow)) = ⊤
 AsksNoRun (Some (form.Run words)) = ⊥
 AsksNoRun (Some (form.Replay words)) = ⊤
+AsksNoRun (Some (form.Recover words)) = ⊥
 
 -- the words ask for this job, and all that is loaded for it is there and right
 abbrev pub AsksFor : List (List ℕ) → Named → Job → Type 0
@@ -91,15 +100,24 @@ abbrev pub IsLongWhere : Status → Type 0 → Type 0
 IsLongWhere result P = (result ≡ status.NoMemory) ⊎ ((result ≡ status.Long) ↔ P)
 
 -- LOG reads as a log, and the status is `Long` where the last leg of it closes with `long`, and only there
-abbrev pub RunsLong : Status → Option Named → Option Named → List ℕ → Type 0
-RunsLong result told now name =
-    (result ≡ status.NoMemory) ⊎ ((log : Log) × HoldsLog told now name log × ((result ≡ status.Long) ↔ (ends_long false log.items ≡ true)))
+abbrev pub RunsLong : Status → World → World → List ℕ → Type 0
+RunsLong result before after name =
+    (result ≡ status.NoMemory) ⊎ ((log : Log) × HoldsLog before.files after.files name log × ((result ≡ status.Long) ↔ (ends_long false log.items ≡ true)))
 
--- when a job is too long: `plain` where the operators give more rows than they may, a run where its log says so, a replay never
-abbrev pub TellsLong : Job → Status → Option Named → Option Named → Type 0
-TellsLong (job.Plain inputs) result told now = IsLongWhere result (most_rows < row_total inputs.flow inputs.files)
-TellsLong (job.Run run) result told now = RunsLong result told now run.log
-TellsLong (job.Replay r) result told now = result ≢ status.Long
+-- the same, but that the sink may have failed where the last leg closes with `long`: the old log may end so
+abbrev pub RecoversLong : Status → World → World → List ℕ → Type 0
+RecoversLong result before after name =
+    (result ≡ status.NoMemory)
+    ⊎ ((log : Log) × HoldsLog before.files after.files name log × (result ≡ status.Long → ends_long false log.items ≡ true)
+    × (ends_long false log.items ≡ true → (result ≡ status.Long) ⊎ ((result ≡ status.OutFault) × Rose before.puts after.puts)))
+
+-- when a job is too long: `plain` where the operators give more rows than they may, a run where its log says so, a recovery too if its old
+-- log is not refused, a replay never
+abbrev pub TellsLong : Job → Status → World → World → Type 0
+TellsLong (job.Plain inputs) result before after = IsLongWhere result (most_rows < row_total inputs.flow inputs.files)
+TellsLong (job.Run run) result before after = RunsLong result before after run.log
+TellsLong (job.Replay r) result before after = result ≢ status.Long
+TellsLong (job.Recover r) result before after = require_limit (job.Recover r) ≡ Ok (job.Recover r) → RecoversLong result before after r.log
 
 -- ---- what a call leaves
 
@@ -159,7 +177,7 @@ pub record Answered (words : List (List ℕ)) (result : Status) (before after : 
   pub puts_grew : Told before.files (λ files. ¬ (Rose before.loads after.loads) → ¬ (Rose before.writes after.writes)
       → before.puts < after.puts → IsSinkStatus (course_of words files) result)
   pub long : Told before.files (λ files. (job : Job) → AsksFor words files job
-      → ¬ (Rose before.loads after.loads) → ¬ (Rose before.writes after.writes) → TellsLong job result before.files after.files)
+      → ¬ (Rose before.loads after.loads) → ¬ (Rose before.writes after.writes) → TellsLong job result before after)
   -- which status it is, over any files
   pub usage : result ≡ status.Usage → call_words_of words ≡ None
   pub bad_words : call_words_of words ≡ None → (result ≡ status.Usage) ⊎ (result ≡ status.NoMemory)
@@ -170,7 +188,7 @@ pub record Answered (words : List (List ℕ)) (result : Status) (before after : 
   pub writes_grew : before.writes < after.writes → (result ≡ status.LogFault) ⊎ (result ≡ status.NoMemory)
   pub out_fault : result ≡ status.OutFault → Rose before.puts after.puts
   pub quiet : result ≡ status.Ok → (after.loads ≡ before.loads) × (after.writes ≡ before.writes) × (after.puts ≡ before.puts)
-  -- what stays where no run is asked for, whatever the status is
+  -- what stays where no run is asked for, nor one to be gone on with, whatever the status is
   pub same : AsksNoRun (call_words_of words) → after.files ≡ before.files
   pub writes : AsksNoRun (call_words_of words) → after.writes ≡ before.writes
   pub unlogged : AsksNoRun (call_words_of words) → result ≢ status.LogFault

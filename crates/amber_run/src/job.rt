@@ -1,5 +1,5 @@
-//! What a job is: the answer of a workflow or the transcript of a log, printed at once, or a run.
-//! Rests on `do_plain`, `do_replay` and `do_run`.
+//! What a job is: the answer of a workflow or the transcript of a log, printed at once, or a run, or one that is gone on with.
+//! Rests on `do_plain`, `do_replay`, `do_run` and `do_recover`.
 
 ghost use Rattle.std.specs.Prelude.{◌≡◌};
 ghost use Rattle.amber_course.specs.Ready.{IsReady, WritesNothing};
@@ -8,6 +8,7 @@ ghost use Rattle.amber_run.specs.Outcome.{WroteNothing};
 ghost use Rattle.amber_recorder.specs.Writing.{Counted};
 
 use crate::plain_job::do_plain;
+use crate::recover_job::do_recover;
 use crate::replay_job::do_replay;
 use crate::run_job::do_run;
 use amber_course::{Failure, Job};
@@ -36,5 +37,6 @@ pub(crate) fn do_job<R: Threads + Sync, G: Gate + Sync, W: Outside>(
         Job::Plain { inputs } => do_plain(alloc, inputs, outside),
         Job::Run(run) => do_run(rt, alloc, run, outside, gate),
         Job::Replay(job) => do_replay(rt, alloc, job, outside),
+        Job::Recover(job) => do_recover(rt, alloc, job, outside, gate),
     }
 }

@@ -1,7 +1,8 @@
-//! What a call answers and leaves, told in two ways, and what a replay comes to. Each function does nothing; its contract is the
-//! law, stated in `specs/AnsweredByChange.antt` and `specs/Replaying.antt`.
+//! What a call answers and leaves, told in two ways, and what a replay and a recovery come to. Each function does nothing; its
+//! contract is the law, stated in `specs/AnsweredByChange.antt`, `specs/Replaying.antt` and `specs/Recovering.antt`.
 
 ghost use Rattle.amber_run.specs.AnsweredByChange.{AnswersAreOne, StopsAreOne};
+ghost use Rattle.amber_run.specs.Recovering.{FrontsAreRecovered};
 ghost use Rattle.amber_run.specs.Replaying.{FrontsAreReplayed};
 
 /// What a call that stopped leaves, with a part of the failure's line, is what it leaves before the line, and then
@@ -20,4 +21,10 @@ pub fn answers_are_one()
 /// their transcript where it ends well.
 pub fn fronts_are_replayed()
     ensures { FrontsAreReplayed }
+{}
+
+/// Any beginning of the text of a legal log, whose commands are the script's first, is gone on from where it stands in a file:
+/// the call is not refused for its log, and what it goes on from are the first items of that log.
+pub fn fronts_are_recovered()
+    ensures { FrontsAreRecovered }
 {}

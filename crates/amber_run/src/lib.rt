@@ -27,7 +27,8 @@
 #![tactic(auto)]
 
 pub use amber_course::{
-    Failure, Job, LogWhy, Reason, ReplayJob, ReplayWords, RunWords, ScriptWhy, Status, Words,
+    Failure, Job, LogWhy, Reason, RecoverJob, RecoverWords, ReplayJob, ReplayWords, RunWords,
+    ScriptWhy, Status, Words,
 };
 pub use call::amber;
 pub use printed::Printed;
@@ -37,5 +38,6 @@ mod job;
 pub mod laws;
 mod plain_job;
 mod printed;
+mod recover_job;
 mod replay_job;
 mod run_job;

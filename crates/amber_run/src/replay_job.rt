@@ -11,10 +11,11 @@ ghost use Rattle.amber_run.specs.Answering.{IsReplayed, Works};
 ghost use Rattle.amber_run.specs.Outcome.{WroteNothing};
 ghost use Rattle.amber_recorder.specs.Writing.{Counted};
 
-use amber_course::{Failure, Job, LogWhy, Reason, ReplayJob, put_output};
+use crate::recover_job::refusal;
+use amber_course::{Failure, Job, ReplayJob, put_output};
 use amber_io::Outside;
 use amber_log::Log;
-use amber_recover::{RebuildErr, replay};
+use amber_recover::replay;
 use amber_rows::{Bytes, Files, Flow, Rows};
 use std::alloc::Global;
 use std::thread::Threads;
@@ -42,15 +43,7 @@ fn transcript<R: Threads + Sync>(
 {
     match replay(rt, alloc, flow, files, log, MOST_STEPS, THREADS) {
         Ok(text) => Ok(text),
-        Err(RebuildErr::Header(op)) => Err(Failure::BadFlow {
-            op,
-            why: Reason::Header,
-        }),
-        Err(RebuildErr::Illegal { line }) => Err(Failure::BadLog {
-            line,
-            why: LogWhy::Illegal,
-        }),
-        Err(RebuildErr::NoMemory) => Err(Failure::NoMemory),
+        Err(error) => Err(refusal(error)),
     }
 }
 

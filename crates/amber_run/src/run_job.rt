@@ -25,8 +25,8 @@ use std::thread::Threads;
 // How many steps a run may make.
 const MOST_STEPS: u64 = 1 << 40;
 
-// Does the commands of a script, and then the one to run to the end, whose rows it gives back.
-fn do_script<R: Threads + Sync, G: Gate + Sync, W: Outside>(
+/// Does the commands of a script, and then the one to run to the end, whose rows it gives back.
+pub(crate) fn do_script<R: Threads + Sync, G: Gate + Sync, W: Outside>(
     recorder: &mut Recorder<'_, R, G, W>,
     debugger: &mut Debugger,
     commands: &[Command],
@@ -70,6 +70,7 @@ fn record_run<R: Threads + Sync, G: Gate + Sync, W: Outside>(
           flow = debugger.old.flow;
           inputs = debugger.old.files;
           batch_size = batch_size;
+          begun = [];
           commands = commands.now ++ end_alone;
         }) (W.world recorder.new.outside.now) }
     ensures counted { Counted result (W.world recorder.old.outside.now)
