@@ -29,7 +29,7 @@ use Rattle.amber_recorder.specs.Recording.{MakesFile, ReportsItem}
 use Rattle.amber_recorder.proofs.Halting.{appends-none, torn-item}
 use Rattle.amber_run.specs.RunTask.{GoesOnFrom, RunTask, query_at}
 use Rattle.amber_run.proofs.Working.{has-head, head-read, left-head, opens-made}
-use Rattle.amber_run.specs.UnderWay.{Begins, FailsAtBegun, HasBegun, HasText, HasTornBegun, IsLeft, Opens, log_of_items}
+use Rattle.amber_run.specs.UnderWay.{WritesBegun, FailsAtBegun, HasWrittenBegun, HasText, HasTornBegun, IsLeft, Opens, log_of_items}
 
 -- ---- a text that was cut off within items
 
@@ -139,13 +139,13 @@ pub record IsBase (t : RunTask) : Type 0 where
   pub left : List Command
   pub commands : map command_of t.begun ++ left ≡ t.commands
 
-pub begins-unopened : (f : Failure) (t : RunTask) (now : World) → Opens {A = Unit {0}} (Err f) t now → Begins {A = Unit {0}} (Err f) t now
+pub begins-unopened : (f : Failure) (t : RunTask) (now : World) → Opens {A = Unit {0}} (Err f) t now → WritesBegun {A = Unit {0}} (Err f) t now
 begins-unopened failure.LogFault t now h = h
 begins-unopened failure.NoMemory t now h = inl h
 begins-unopened other t now h = absurd h
 
 -- there are none
-pub begins-none : (t : RunTask) (now : World) → Opens {A = Unit {0}} (Ok tt) t now → t.begun ≡ [] → HasBegun t now
+pub begins-none : (t : RunTask) (now : World) → Opens {A = Unit {0}} (Ok tt) t now → t.begun ≡ [] → HasWrittenBegun t now
 unfolding log_text transcript_of replies
 begins-none t now h none =
     subst (λ items. (now.files ≡ with_file t.before.files t.name (log_text (log_of_items t.batch_size items))) × Appends t.before.got now.got (transcript_of (query_at t t.batch_size) items))
@@ -231,7 +231,7 @@ begun-front t mid now part (x ∷ xs) item base h is whole new same = begun-torn
 -- they were written and their replies put, or that failed
 pub begins-reported : (r : Result (Unit {0}) Failure) (t : RunTask) (done : Done) (mid now : World) → IsBase t → t.begun ≢ [] → Opens {A = Unit {0}} (Ok tt) t mid
     → done.item ≡ flat_map item_text t.begun → done.reply ≡ transcript_of (query_at t t.batch_size) t.begun
-    → ReportsItem r (record { name = t.name; done = done }) mid now → Begins r t now
+    → ReportsItem r (record { name = t.name; done = done }) mid now → WritesBegun r t now
 begins-reported (Ok x) t done mid now base some h is told (new, put) = (
   whole-file t mid now done.item h is new,
   grown-got t mid now (transcript_of (query_at t t.batch_size) t.begun) h (subst (λ text. Appends mid.got now.got text) told put),
@@ -267,18 +267,18 @@ base-of t old log_name world h = record {
 
 -- the log was not made
 pub go-unopened : (f : Failure) (t : RunTask) (old : Log) (log_name : List ℕ) (world now : World) → GoesOnFrom t old log_name world → IsBatch old.batch
-    → MakesFile {A = Unit {0}} (Err f) (record { name = log_name; bytes = head_text old.batch }) world now → now.got ≡ world.got → Begins {A = Unit {0}} (Err f) t now
+    → MakesFile {A = Unit {0}} (Err f) (record { name = log_name; bytes = head_text old.batch }) world now → now.got ≡ world.got → WritesBegun {A = Unit {0}} (Err f) t now
 go-unopened f t old log_name world now h is made same = begins-unopened f t now (opened (Err f) t old log_name world now h is made same)
 
 -- the old log has no item
 pub go-none : (t : RunTask) (old : Log) (log_name : List ℕ) (world now : World) → GoesOnFrom t old log_name world → IsBatch old.batch
-    → MakesFile {A = Unit {0}} (Ok tt) (record { name = log_name; bytes = head_text old.batch }) world now → now.got ≡ world.got → old.items ≡ [] → HasBegun t now
+    → MakesFile {A = Unit {0}} (Ok tt) (record { name = log_name; bytes = head_text old.batch }) world now → now.got ≡ world.got → old.items ≡ [] → HasWrittenBegun t now
 go-none t old log_name world now h is made same none = begins-none t now (opened (Ok tt) t old log_name world now h is made same) (h.begun ∙ none)
 
 -- its items were to be written, and their replies put
 pub go-reported : (r : Result (Unit {0}) Failure) (t : RunTask) (old : Log) (log_name : List ℕ) (done : Done) (world mid now : World) → GoesOnFrom t old log_name world → IsBatch old.batch
     → MakesFile {A = Unit {0}} (Ok tt) (record { name = log_name; bytes = head_text old.batch }) world mid → mid.got ≡ world.got → old.items ≢ []
-    → done.item ≡ flat_map item_text old.items → done.reply ≡ transcript_of (query_at t t.batch_size) t.begun → ReportsItem r (record { name = log_name; done = done }) mid now → Begins r t now
+    → done.item ≡ flat_map item_text old.items → done.reply ≡ transcript_of (query_at t t.batch_size) t.begun → ReportsItem r (record { name = log_name; done = done }) mid now → WritesBegun r t now
 go-reported r t old log_name done world mid now h is made same some item told reports =
     begins-reported r t done mid now (base-of t old log_name world h) (λ none. some (sym h.begun ∙ none)) (opened (Ok tt) t old log_name world mid h is made same)
     (item ∙ ap (λ items. flat_map item_text items) (sym h.begun)) told (subst (λ name. ReportsItem r (record { name = name; done = done }) mid now) (sym h.name) reports)

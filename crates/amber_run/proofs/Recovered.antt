@@ -16,7 +16,7 @@ use Rattle.amber_recover.specs.declared.error.RebuildErr.{RebuildErr}
 use Rattle.amber_recover.specs.declared.error.RebuildErr.TheVariants as rebuild_err
 use Rattle.amber_run.specs.Answering.{Fails, HasTakenUp, IsTakenUp, Works, refusal_of}
 use Rattle.amber_run.specs.RunTask.{GoesOnFrom, RunTask, most_steps, query_at, recover_task_of}
-use Rattle.amber_run.specs.UnderWay.{Begins, HasBegun, HasTaken, Leaves, Worked, log_of_items}
+use Rattle.amber_run.specs.UnderWay.{WritesBegun, HasWrittenBegun, HasTaken, Leaves, Worked, log_of_items}
 use Rattle.amber_run.specs.declared.recover_job.TakenUp.{TakenUp}
 
 -- ---- an old log that is refused
@@ -53,7 +53,7 @@ goes-from r made before h =
       commands = h.first;
     }
 
-pub taken-from : (r : RecoverJob) (made : TakenUp) (before now : World) → HasTakenUp r made → HasBegun (recover_task_of before r) now → HasTaken (recover_task_of before r) made.debugger now
+pub taken-from : (r : RecoverJob) (made : TakenUp) (before now : World) → HasTakenUp r made → HasWrittenBegun (recover_task_of before r) now → HasTaken (recover_task_of before r) made.debugger now
 taken-from r made before now h begun =
     let log = log-taken r made h in
     record {
@@ -67,7 +67,7 @@ taken-from r made before now h begun =
 
 -- the items could not be written, or their replies put
 pub begin-fails : (A : Type 0) (f : Failure) (r : RecoverJob) (before now : World) → require_limit (job.Recover r) ≡ Ok (job.Recover r)
-    → Begins {A = Unit {0}} (Err f) (recover_task_of before r) now → Works {A = A} (Err f) (job.Recover r) before now
+    → WritesBegun {A = Unit {0}} (Err f) (recover_task_of before r) now → Works {A = A} (Err f) (job.Recover r) before now
 begin-fails A failure.LogFault r before now right h = (right, h)
 begin-fails A failure.OutFault r before now right h = (right, h)
 begin-fails A failure.NoMemory r before now right h = inr (right, h)

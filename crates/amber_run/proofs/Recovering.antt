@@ -24,7 +24,7 @@ use Rattle.amber_course.specs.declared.job.RecoverJob.{RecoverJob}
 use Rattle.amber_course.specs.declared.words.RecoverWords.{RecoverWords}
 use Rattle.amber_course.specs.declared.words.Words.TheVariants as form
 use Rattle.amber_course.proofs.Commanded.{commands-none}
-use Rattle.amber_run.specs.Recovering.{FrontsAreRecovered, StandsReady}
+use Rattle.amber_run.specs.Recovering.{FrontsAreRecovered, IsRecoverable}
 use Rattle.amber_run.proofs.Ending.{course-job}
 use Rattle.amber_run.proofs.Replaying.{log-read, none-illegal}
 
@@ -54,7 +54,7 @@ good-front inputs commands left log read legal first (inr (count, is)) =
           ∙ ap (λ c. c ++ left) (sym (map-append command_of (take count log.items) (drop count log.items)) ∙ ap (λ items. map command_of items) both) ∙ first;
     })
 
-recover-read : (r : RecoverWords) (files : Named) (inputs : Loaded) (commands : List Command) (read : Log) → StandsReady r files inputs commands → log_in r.old_log files ≡ Ok read
+recover-read : (r : RecoverWords) (files : Named) (inputs : Loaded) (commands : List Command) (read : Log) → IsRecoverable r files inputs commands → log_in r.old_log files ≡ Ok read
     → job_of (form.Recover r) files ≡ Ok (job.Recover (recover_of r commands inputs read))
 unfolding job_of
 recover-read r files inputs commands read ready got = rw (ready.read, ready.script, ready.loaded, got) refl

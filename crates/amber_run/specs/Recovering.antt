@@ -17,7 +17,7 @@ use Rattle.amber_course.specs.declared.words.RecoverWords.{RecoverWords}
 use Rattle.amber_course.specs.declared.words.Words.TheVariants as form
 
 -- the workflow of a recovery is there with its script and the files of its scans, none of which is the log that it writes
-pub record StandsReady (r : RecoverWords) (files : Named) (inputs : Loaded) (commands : List Command) : Type 0 where
+pub record IsRecoverable (r : RecoverWords) (files : Named) (inputs : Loaded) (commands : List Command) : Type 0 where
   pub flow : IsFlow inputs.flow
   pub read : run_flow r.workflow r.log files ≡ Ok inputs.flow
   pub script : script_in r.script inputs.flow files ≡ Ok commands
@@ -27,7 +27,7 @@ pub record StandsReady (r : RecoverWords) (files : Named) (inputs : Loaded) (com
 -- script and the one to run to the end, a recovery has the job of going on from the first items of that log, or from none: it is not refused
 abbrev pub FrontsAreRecovered : Type 0
 FrontsAreRecovered = (words : List (List ℕ)) (r : RecoverWords) (files : Named) (inputs : Loaded) (commands left : List Command) (log : Log) (bytes rest : List ℕ)
-    → call_words_of words ≡ Some (form.Recover r) → StandsReady r files inputs commands
+    → call_words_of words ≡ Some (form.Recover r) → IsRecoverable r files inputs commands
     → IsLegal (query_over inputs.flow inputs.files log.batch most_run_steps) log → map command_of log.items ++ left ≡ commands ++ end_alone
     → bytes ++ rest ≡ log_text log → finmap.get files r.old_log ≡ Some bytes → length bytes ≤ most_log
     → (read : Log) × IsFrontOf log read × (course_of words files ≡ Ok (job.Recover (recover_of r commands inputs read)))

@@ -172,8 +172,8 @@ Opens (Err failure.NoMemory) t world = IsBare t world
 Opens (Err other) t world = ⊥
 
 -- the items from which the run goes on stand in the log, and their replies were put
-abbrev pub HasBegun : RunTask → World → Type 0
-HasBegun t world =
+abbrev pub HasWrittenBegun : RunTask → World → Type 0
+HasWrittenBegun t world =
     (world.files ≡ with_file t.before.files t.name (log_text (log_of_items t.batch_size t.begun)))
     × Appends t.before.got world.got (transcript_of (query_at t t.batch_size) t.begun)
 
@@ -182,17 +182,17 @@ pub record HasTaken (t : RunTask) (d : Session) (world : World) : Type 0 where
   pub session : IsSession t d
   pub log : d.log ≡ log_of_items t.batch_size t.begun
   pub legal : IsLegal (query_at t t.batch_size) d.log
-  pub outside : HasBegun t world
+  pub outside : HasWrittenBegun t world
   pub left : List Command
   pub commands : map command_of t.begun ++ left ≡ t.commands
 
 -- the items stand there, or that failed
-abbrev pub Begins : {A : Type 0} → Result A Failure → RunTask → World → Type 0
-Begins (Ok x) t world = HasBegun t world
-Begins (Err failure.LogFault) t world = IsBare t world ⊎ IsLeft t failure.LogFault world
-Begins (Err failure.OutFault) t world = IsLeft t failure.OutFault world
-Begins (Err failure.NoMemory) t world = IsBare t world ⊎ IsLeft t failure.NoMemory world
-Begins (Err other) t world = ⊥
+abbrev pub WritesBegun : {A : Type 0} → Result A Failure → RunTask → World → Type 0
+WritesBegun (Ok x) t world = HasWrittenBegun t world
+WritesBegun (Err failure.LogFault) t world = IsBare t world ⊎ IsLeft t failure.LogFault world
+WritesBegun (Err failure.OutFault) t world = IsLeft t failure.OutFault world
+WritesBegun (Err failure.NoMemory) t world = IsBare t world ⊎ IsLeft t failure.NoMemory world
+WritesBegun (Err other) t world = ⊥
 
 -- what a failure at a command leaves
 abbrev pub Halts : RunTask → World → Failure → Type 0

@@ -17,7 +17,7 @@ ghost use Rattle.amber_recorder.specs.Left.{ends_long};
 ghost use Rattle.amber_recorder.specs.Writing.{Counted};
 ghost use Rattle.amber_run.specs.Answering.{HasTakenUp, IsTakenUp, Works, refusal_of};
 ghost use Rattle.amber_course.specs.declared.job.RecoverJob.{RecoverJob};
-ghost use Rattle.amber_run.specs.UnderWay.{Begins, HasTaken, Worked};
+ghost use Rattle.amber_run.specs.UnderWay.{WritesBegun, HasTaken, Worked};
 ghost use Rattle.amber_run.specs.RunTask.{GoesOnFrom, RunTask, end_alone, query_at};
 
 use crate::run_job::do_script;
@@ -136,7 +136,7 @@ fn begin<R: Threads + Sync, G: Gate + Sync, W: Outside>(
     ensures begins { (t : RunTask)
         → GoesOnFrom t old.now recorder.old.log_name.now (W.world recorder.old.outside.now)
         → done.now.reply ≡ transcript_of (query_at t t.batch_size) t.begun
-        → Begins result t (W.world recorder.new.outside.now) }
+        → WritesBegun result t (W.world recorder.new.outside.now) }
     ensures there { IfOk result (λ begun.
         IsThere (W.world recorder.new.outside.now).files recorder.old.log_name.now) }
     ensures counted { Counted result (W.world recorder.old.outside.now)
