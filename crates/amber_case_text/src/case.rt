@@ -1,6 +1,6 @@
 //! A case: what is given, what fails, and what is expected. Rests on `CaseText`.
 
-ghost use Rattle.std.specs.Prelude.{◌≡◌, []};
+ghost use Rattle.std.specs.Prelude.{◌≡◌, ◌↔◌, [], None, false};
 
 use crate::case_text::CaseText;
 use std::alloc::Global;
@@ -62,6 +62,8 @@ pub struct Case {
     pub puts: Vec<u64>,
     /// How many bytes a failing call keeps. Each number is a run for each of the words.
     pub keep: Vec<u64>,
+    /// The file of which each front is a run for each of the words, where no call fails.
+    pub fronts: Option<String>,
     pub status: u8,
     /// The outputs that are right; where there is none, nothing is printed.
     pub out: Vec<CaseText>,
@@ -78,6 +80,7 @@ impl Drop for Case {
             writes: _,
             puts: _,
             keep: _,
+            fronts: _,
             status: _,
             out: _,
             after: _,
@@ -91,6 +94,7 @@ impl Case {
         ensures name { result.name ≡ name }
         ensures words { result.words.items ≡ [] }
         ensures files { result.files.items ≡ [] }
+        ensures fronts { result.fronts ≡ None }
     {
         Case {
             name,
@@ -100,6 +104,7 @@ impl Case {
             writes: Vec::new(alloc),
             puts: Vec::new(alloc),
             keep: Vec::new(alloc),
+            fronts: None,
             status: 0,
             out: Vec::new(alloc),
             after: Vec::new(alloc),
@@ -114,6 +119,14 @@ impl Case {
             }
         }
         None
+    }
+
+    /// Whether a call fails in the case.
+    pub fn has_failing_calls(&self) -> bool
+        ensures { result ≡ false ↔ ((self.now.loads.items ≡ []) × (self.now.writes.items ≡ [])
+            × (self.now.puts.items ≡ [])) }
+    {
+        !(self.loads.is_empty() && self.writes.is_empty() && self.puts.is_empty())
     }
 
     /// The text of the file of this name, where the case gives one.

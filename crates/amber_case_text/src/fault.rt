@@ -21,6 +21,10 @@ pub enum Why {
     Repeated,
     /// No shared text has the name.
     Unknown,
+    /// No file that stands above it in its case has the name.
+    NoFile,
+    /// It asks for fronts a second time, or for calls that fail beside fronts.
+    Fronts,
     /// A number is missing, has another form or is out of its range.
     Number,
     /// A backslash begins no escape, or a word is no text.
@@ -42,6 +46,8 @@ impl fmt::Display for Why {
             Why::NoName => "a name is missing",
             Why::Repeated => "the name stands twice",
             Why::Unknown => "no shared text has this name",
+            Why::NoFile => "no file above has this name",
+            Why::Fronts => "a case has fronts of one file, and then no calls that fail",
             Why::Number => "a number is missing or wrong",
             Why::Escape => "there is no such escape",
             Why::NotExpected => "only an expected text has such a line",

@@ -18,6 +18,7 @@ mod compare;
 mod escapes;
 mod fault;
 mod filling;
+mod fronts;
 mod names;
 mod numbers;
 mod open;

@@ -4,6 +4,7 @@ use crate::case::{After, Case, Left, NamedText, find_text};
 use crate::case_text::{CaseText, Piece};
 use crate::escapes::{unescaped, words};
 use crate::fault::{Broken, Why, push};
+use crate::fronts::set_fronts;
 use crate::names::add_name;
 use crate::numbers::{add_numbers, number_and_rest};
 use crate::open::{braced, is_open, line_or_none, sum, whole_line};
@@ -85,7 +86,7 @@ impl Reader {
             "file" => self.begin_file(rest),
             "out" => self.begin_out(rest),
             "after" => self.begin_after(rest),
-            "words" | "status" | "loads" | "writes" | "puts" | "keep" => {
+            "words" | "status" | "loads" | "writes" | "puts" | "keep" | "fronts" => {
                 self.place = Place::Nowhere;
                 match self.cases.last_mut() {
                     Some(case) => read_values(case, self.alloc, head, rest),
@@ -325,6 +326,17 @@ fn read_values(case: &mut Case, alloc: Global, head: &str, rest: &str) -> Result
             }
             Err(_) => Err(Why::Number),
         },
+        "fronts" => set_fronts(case, String::from_str(alloc, named(rest)?)?),
+        _ => read_failures(case, head, rest),
+    }
+}
+
+// A line of a case that says which calls fail, or how many bytes they keep.
+fn read_failures(case: &mut Case, head: &str, rest: &str) -> Result<(), Why> {
+    if case.fronts.is_some() {
+        return Err(Why::Fronts);
+    }
+    match head {
         "loads" => add_numbers(&mut case.loads, rest),
         "writes" => add_numbers(&mut case.writes, rest),
         "puts" => add_numbers(&mut case.puts, rest),
