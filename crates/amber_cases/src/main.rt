@@ -5,6 +5,10 @@
 //! where the program runs, in the order of their names. `docs/ADDING_CASES.md` has their format.
 #![tactic(auto)]
 
+mod case_run;
+mod differences;
+mod left_log;
+mod recovered;
 mod replayed;
 mod report;
 mod session_call;
