@@ -30,6 +30,10 @@ const HELP: &str = "amber answers queries over CSV files.
   amber replay WORKFLOW LOG
                          prints what the run or the session printed that has written the file LOG, which
                          is only read
+  amber recover WORKFLOW SCRIPT OLDLOG LOG THREADS
+                         goes on with a run that was cut off: prints what the log OLDLOG, which is only
+                         read, tells, does what is left of the script, and runs to the end; all of that
+                         is written into the file LOG
   amber debug WORKFLOW LOG [THREADS BATCH]
                          a session: reads commands from the standard input, one a line, and answers
                          each before it reads the next; `amber debug --help` tells more
@@ -52,6 +56,7 @@ script may be empty.
   inspect OP             shows how far the workers of OP are
   set OP VALUE           changes the constant of the filter OP, for the rows that it takes from then on
   drop OP W              drops the row that the held worker W of OP is about to emit
+  lose OP W              throws the worker W of OP away, and builds it again from the log
   clear OP               takes back what was asked to stop at OP
 
 A workflow is a JSON text with a list of operators: scans of CSV files, filters, projections, joins,
@@ -75,7 +80,7 @@ code, a word for what was refused, and then what it was, as in `error 4 read ord
    4  a file was not there, or it or the input of a session could not be read
    5  the log could not be written
    6  the output could not be written
-   7  the log was refused that was to be replayed, or of which the commands were to be printed
+   7  a log that was read was refused: to be replayed, to go on from, or to print its commands
    8  the work went past its limit
    9  a file, or the input of a session, was too large
   10  memory ran out

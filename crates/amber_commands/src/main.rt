@@ -1,5 +1,5 @@
 //! `amber commands`: prints the commands of a log, one a line, as a script, over the system's files
-//! and the standard output. So a session that was cut off can be done again.
+//! and the standard output. So a session that was cut off can be done again, or gone on with.
 #![tactic(auto)]
 
 mod fitting;
@@ -30,7 +30,11 @@ torn at its end, where a session was cut off, is left out.
 
 A leg to the end has no line, since the end of a script runs to the end. So of a session that ended
 it prints the script by which `amber run` does the same, and of one that was cut off all that was
-done until then: add lines to it, and run it.
+done until then. In a file SCRIPT, perhaps with lines added to it, it is the script by which
+
+  amber recover WORKFLOW SCRIPT OLDLOG LOG THREADS
+
+goes on from that log, OLDLOG.
 
 Exit codes are those of `amber run`, and 7 where the log is refused: `error 7 log LINE Text` where
 the line cannot stand in a log, and `error 7 log LINE Illegal` where no script for the workflow may

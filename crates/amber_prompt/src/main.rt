@@ -36,14 +36,23 @@ const HELP: &str = "amber debug WORKFLOW LOG [THREADS BATCH]
 
 A session: reads commands from the standard input, one a line, and answers each before it reads the next.
 The end of input runs to the end and prints the answer. What was done is written into the file LOG, which
-is made anew: what stood in that file is gone. THREADS, 1 to 64, is 4 where it is left out, and BATCH, 1 to 65536, is 400. The commands are
-those of a script, see `amber --help`; a line that is no command is told to be `refused`, with its number
-and the reason, and the session goes on. Exit codes are those of `amber run`.
+is made anew: what stood in that file is gone. THREADS, 1 to 64, is 4 where it is left out, and BATCH, 1
+to 65536, is 400. The commands are those of a script, see `amber --help`, among them `lose OP W`, which
+throws a worker away and builds it again from the log; a line that is no command is told to be `refused`,
+with its number and the reason, and the session goes on. Exit codes are those of `amber run`.
 
 At a terminal a prompt stands before each line, `help` shows the commands, and a sentence tells what a
 refusal means. Lines can be edited, and earlier ones come back, where `rlwrap` is installed. Nothing can
 be typed into a run that goes on. Ctrl-C ends the program: a run that goes on is lost, and nothing before
 it. `quit` is no command.
+
+A session that was cut off is gone on with by two calls:
+
+  amber commands WORKFLOW LOG >SCRIPT
+  amber recover WORKFLOW SCRIPT LOG NEWLOG THREADS
+
+The first prints what was typed; the second prints the same replies again, does what was added to SCRIPT,
+and runs to the end. A new session over LOG would make LOG anew.
 ";
 
 fn main(rt: HostRuntime) -> ExitCode {

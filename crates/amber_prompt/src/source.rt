@@ -23,12 +23,14 @@ break when OP COLUMN CMP VALUE
 inspect OP             shows how far the workers of OP are
 set OP VALUE           changes the constant of the filter OP, for the rows that it takes from then on
 drop OP W              drops the row that the held worker W of OP is about to emit
+lose OP W              throws the worker W of OP away, and builds it again from the log
 clear OP               takes back what was asked to stop at OP
 help                   shows this text
 
 The end of input (ctrl-D) runs to the end and prints the answer. There is no `quit`: ctrl-C ends the
 session without an answer. Nothing can be typed into a run that goes on: ctrl-C there loses what was
-done since that `run`, and nothing before it.
+done since that `run`, and nothing before it. What was cut off goes on by `amber commands` and then
+`amber recover`.
 ";
 
 /// The standard input, beside a screen.

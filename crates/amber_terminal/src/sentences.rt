@@ -109,6 +109,7 @@ fn of_log(word: &[u8]) -> Option<&'static str> {
     match word {
         b"Text" => Some("The line is none that may stand there in a log."),
         b"Illegal" => Some("The line may not stand there in a log of this workflow."),
+        b"Command" => Some("From this line on the log has other commands than the script."),
         _ => None,
     }
 }

@@ -43,6 +43,7 @@ fn each_error_line_has_its_sentence(rt: HostRuntime) -> Result<(), Fail> {
         "error 5 log write\n",
         "error 7 log 10 Text\n",
         "error 7 log 2 Illegal\n",
+        "error 7 log 2 Command\n",
         "error 8 long\n",
         "error 9 large input\n",
         "error 10 memory\n",
