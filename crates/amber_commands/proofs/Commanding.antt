@@ -167,6 +167,9 @@ set-word = starts-bare 115 (codes "et") refl refl
 drop-word : IsWordOf (codes "drop") (codes "drop")
 drop-word = starts-bare 100 (codes "rop") refl refl
 
+lose-word : IsWordOf (codes "lose") (codes "lose")
+lose-word = starts-bare 108 (codes "ose") refl refl
+
 inspect-word : IsWordOf (codes "inspect") (codes "inspect")
 inspect-word = starts-bare 105 (codes "nspect") refl refl
 
@@ -205,6 +208,15 @@ drop-means flow op worker operator is less small = record {
   texts = codes "drop" ∷ operator.id ∷ decimal worker ∷ [];
   are = (drop-word, (is.id, (decimal-word worker small, tt)));
   said = ap (λ (r : Pairs). r >>= (λ said. Ok (command.Drop said.0 said.1))) (worker-said flow op worker operator is less);
+}
+
+pub lose-means : (flow : List Operator) (op worker : ℕ) (operator : Operator) → IsOperator flow op operator → nat_lt worker operator.workers ≡ true → worker < 2 ^ 64
+    → IsMeant flow (codes "lose" ∷ operator.id ∷ decimal worker ∷ []) (command.Lose op worker)
+unfolding command_by AreWordsOf
+lose-means flow op worker operator is less small = record {
+  texts = codes "lose" ∷ operator.id ∷ decimal worker ∷ [];
+  are = (lose-word, (is.id, (decimal-word worker small, tt)));
+  said = ap (λ (r : Pairs). r >>= (λ said. Ok (command.Lose said.0 said.1))) (worker-said flow op worker operator is less);
 }
 
 pub set-means : (flow : List Operator) (op : ℕ) (v : Value) (operator : Operator) → IsOperator flow op operator → IsConstant v

@@ -28,7 +28,7 @@ use Rattle.amber_script.specs.Script.{commands_from, said, said_by, says, script
 use Rattle.amber_script.specs.declared.script_line.ScriptLine.TheVariants as told
 use Rattle.amber_commands.specs.Commands.{are_scripted, commands_in, commands_of, commands_text, fits_script, unfit_line}
 use Rattle.amber_commands.specs.Laws.{HasTextNames, ScriptsReadBack}
-use Rattle.amber_commands.proofs.Commanding.{IsMeant, cell-of, clear-means, cond-of, constant-of, count-means, drop-means, inspect-means, operator-of, pause-means, run-means, set-means, source-of, there-of, when-means, worker-of}
+use Rattle.amber_commands.proofs.Commanding.{IsMeant, cell-of, clear-means, cond-of, constant-of, count-means, drop-means, inspect-means, lose-means, operator-of, pause-means, run-means, set-means, source-of, there-of, when-means, worker-of}
 use Rattle.amber_commands.proofs.Spelling.{are-texts, blanked, blanked-inline, blanked-line, blanked-read, is_inline}
 
 -- ---- one line
@@ -120,6 +120,14 @@ drop-back flow op worker ops small fits =
     (subst (λ (x : Option Operator). IsMeant flow (codes "drop" ∷ id_in x ∷ decimal worker ∷ []) (command.Drop op worker)) (sym at.1)
     (drop-means flow op worker at.0 (operator-of flow op at.0 ops at.1) at.2 (omega (arith, small)))) refl refl
 
+lose-back : (flow : List Operator) (op worker : ℕ) → AreNext [] flow → worker < 2 ^ 32 → has_worker (nth flow op) worker ≡ true → IsReadBack flow (command.Lose op worker)
+unfolding script_line says
+lose-back flow op worker ops small fits =
+    let at = worker-of (nth flow op) worker fits in
+    back flow (command.Lose op worker) (codes "lose") (id_in (nth flow op) ∷ decimal worker ∷ [])
+    (subst (λ (x : Option Operator). IsMeant flow (codes "lose" ∷ id_in x ∷ decimal worker ∷ []) (command.Lose op worker)) (sym at.1)
+    (lose-means flow op worker at.0 (operator-of flow op at.0 ops at.1) at.2 (omega (arith, small)))) refl refl
+
 inspect-back : (flow : List Operator) (op : ℕ) → AreNext [] flow → is_there (nth flow op) ≡ true → IsReadBack flow (command.Inspect op)
 unfolding script_line says
 inspect-back flow op ops fits =
@@ -139,7 +147,7 @@ command-back flow (command.Clear op) ops names is fits = clear-back flow op ops 
 command-back flow (command.Set op v) ops names is fits = set-back flow op v ops is.1 fits
 command-back flow (command.Drop op worker) ops names is fits = drop-back flow op worker ops is.1 fits
 command-back flow (command.Inspect op) ops names is fits = inspect-back flow op ops fits
-command-back flow (command.Lose op worker) ops names is fits = absurd cc
+command-back flow (command.Lose op worker) ops names is fits = lose-back flow op worker ops is.1 fits
 
 -- ---- all lines
 
