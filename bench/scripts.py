@@ -45,6 +45,15 @@ class Draw:
         places = self.rng.sample(range(operator.workers), self.rng.randint(1, operator.workers))
         return [("drop", operator.number, place) for place in places]
 
+    def loses(self, operator):
+        """A line `lose` for some of an operator's workers."""
+        places = self.rng.sample(range(operator.workers), self.rng.randint(1, operator.workers))
+        return [("lose", operator.number, place) for place in places]
+
+    def lose(self):
+        """A line `lose` for a worker of any operator."""
+        return self.loses(self.rng.choice(self.job.flow.operators))[0]
+
     def set(self):
         """Another constant for a filter, or a look where there is none."""
         if not self.filters:
@@ -61,7 +70,8 @@ class Draw:
         operator = self.operator()
         return self.rng.choice([
             lambda: ("run",), lambda: ("run",), lambda: self.inspect(), lambda: self.pause(operator), lambda: self.count(operator),
-            lambda: self.when(operator), lambda: ("clear", operator.number), self.set, lambda: self.drops(operator)[0]])()
+            lambda: self.when(operator), lambda: ("clear", operator.number), self.set, self.lose,
+            lambda: self.drops(operator)[0]])()
 
 
 def one_row(draw):
@@ -129,6 +139,12 @@ def all_at_once(draw):
     return armed + [("run",)] + looks + [("run",)] * draw.rng.randint(1, 4) + looks
 
 
+def lost(draw):
+    operator = draw.operator()
+    stop = [draw.count(operator), ("run",), draw.inspect(operator), *draw.loses(operator), draw.lose(), draw.inspect(operator)]
+    return stop + [draw.when(operator), ("run",), *draw.loses(operator), draw.drops(operator)[0], *draw.loses(operator)]
+
+
 def nothing(draw):
     return [("run",), ("run",)][:draw.rng.randint(0, 2)] + [draw.inspect()]
 
@@ -137,8 +153,8 @@ def anything(draw):
     return [draw.anything() for _ in range(draw.rng.randint(1, 14))]
 
 
-SHAPES = [one_row, all_rows, one_more, some_rows, two_counts, count_and_condition, conditions, two_conditions, pauses, constants,
-          all_at_once, nothing, anything, anything]
+SHAPES = [one_row, lost, all_rows, one_more, some_rows, two_counts, count_and_condition, conditions, two_conditions, pauses,
+          constants, all_at_once, nothing, anything, anything]
 
 
 def script(job, rng, run):
