@@ -56,12 +56,16 @@ fn do_call<R: Threads + Sync, G: Gate + Sync, W: Outside>(
 /// - `replay WORKFLOW LOG` does the log in the file LOG again, which is only read, and prints what its run has printed. What is
 ///   torn behind its whole items is left out. LOG is not WORKFLOW.
 ///
-/// The words are read, and the workflow is loaded and read; for a run LOG is compared with the scans' files, and
-/// the script is loaded and read; then each scan's file is loaded and its header compared; for `replay` LOG is compared like that,
-/// and at last loaded, read and judged. `plain` computes the
-/// answer, over at most 2^40 rows of all operators, and puts it in one call. A run makes LOG anew and appends its
-/// head in one call; then, for each command, the item is appended in one call, and the reply is put in one call. A
-/// leg that comes to 2^40 steps is appended before the call ends with `Long`.
+/// - `recover WORKFLOW SCRIPT OLDLOG LOG THREADS` goes on with a run from its log OLDLOG, which is only read: it writes OLDLOG's
+///   whole items into LOG, prints what they have printed, and does the commands of the script behind theirs and runs to the end.
+///   LOG is none of the other files.
+///
+/// The words are read, and the workflow is loaded and read; for all but `plain` LOG is compared with the scans' files; for a run
+/// and a recovery the script is loaded and read; then each scan's file is loaded and its header compared; for `replay` and
+/// `recover` the log is at last loaded, read and judged. `plain` computes the answer, over at most 2^40 rows of all operators,
+/// and puts it in one call. A run makes LOG anew and appends its head in one call; then, for each command, the item is appended
+/// in one call, and the reply is put in one call. A recovery does so too, with the items of OLDLOG in one call and their replies
+/// in one call before the first command. A leg that comes to 2^40 steps is appended before the call ends with `Long`.
 ///
 /// The workers of a run go side by side, on as many threads as THREADS says, and pass `gate` before each turn. How far
 /// each of them is at a stop may depend on how the threads go; the log tells it, and the output is what follows from the
