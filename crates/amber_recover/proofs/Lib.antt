@@ -1,6 +1,7 @@
 pub mod AtRest
 pub mod ItemsDone
 pub mod Judging
+pub mod Legal
 pub mod LegsDone
 pub mod PartsDone
 pub mod Told

@@ -9,6 +9,7 @@ ghost use Rattle.amber_rows.specs.Topology.{crew_of};
 
 use crate::copying::{copy_of_files, copy_of_flow};
 use crate::counting::have_few_lines;
+use crate::error::RebuildErr;
 use crate::recovering::rebuild;
 use amber_home::Home;
 use amber_worker::Worker;
@@ -42,7 +43,9 @@ pub fn rebuild_worker<R: Threads + Sync>(
     let files = copy_of_files(alloc, home.files())?;
     match rebuild(rt, alloc, flow, files, log, home.most(), 1) {
         Ok(made) => Ok(made.into_worker(worker)),
-        // A home's files were checked, and its log is legal, so want of memory is the only error.
-        Err(_) => Err(AllocError),
+        Err(RebuildErr::NoMemory) => Err(AllocError),
+        // The files of a home begin with the names of their columns, and its log is legal.
+        Err(RebuildErr::Header(_)) => unreachable!(),
+        Err(RebuildErr::Illegal { line: _ }) => unreachable!(),
     }
 }

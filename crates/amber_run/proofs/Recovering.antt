@@ -24,9 +24,10 @@ use Rattle.amber_course.specs.declared.job.RecoverJob.{RecoverJob}
 use Rattle.amber_course.specs.declared.words.RecoverWords.{RecoverWords}
 use Rattle.amber_course.specs.declared.words.Words.TheVariants as form
 use Rattle.amber_course.proofs.Commanded.{commands-none}
+use Rattle.amber_recover.proofs.Legal.{none-illegal}
 use Rattle.amber_run.specs.Recovering.{FrontsAreRecovered, IsRecoverable}
 use Rattle.amber_run.proofs.Ending.{course-job}
-use Rattle.amber_run.proofs.Replaying.{log-read, none-illegal}
+use Rattle.amber_run.proofs.Replaying.{log-read}
 
 -- a run of no item is legal
 none-legal : (inputs : Loaded) → IsLegal (query_over inputs.flow inputs.files 400 most_run_steps) empty_log

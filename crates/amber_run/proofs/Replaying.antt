@@ -9,10 +9,7 @@ use Rattle.amber_log.specs.declared.log.Item.{Item}
 use Rattle.amber_log.specs.declared.log.Log.{Log}
 use Rattle.amber_log.proofs.Exact.{reads_what_stands}
 use Rattle.amber_log.proofs.Torn.{reads-whole}
-use Rattle.amber_lines.specs.Lines.{illegal_line}
-use Rattle.amber_lines.proofs.Illegal.{illegal_lines_are_first}
 use Rattle.amber_meaning.specs.Legal.{IsLegal, Query, query_over}
-use Rattle.amber_meaning.specs.Laws.{SendersFirst}
 use Rattle.amber_meaning.proofs.Fronts.{fronts_are_legal}
 use Rattle.amber_meaning.proofs.Senders.{flows_send_forward}
 use Rattle.amber_course.specs.Course.{course_of, illegal_line_in, job_of, load_of, loaded_for, log_in, most_log, most_run_steps, require_limit, run_flow}
@@ -21,6 +18,7 @@ use Rattle.amber_course.specs.Words.{call_words_of}
 use Rattle.amber_course.specs.declared.job.Job.TheVariants as job
 use Rattle.amber_course.specs.declared.job.ReplayJob.{ReplayJob}
 use Rattle.amber_course.specs.declared.words.Words.TheVariants as form
+use Rattle.amber_recover.proofs.Legal.{none-illegal}
 use Rattle.amber_run.specs.Replaying.{FrontsAreReplayed, StandsBeside, log_of, replay_call}
 use Rattle.amber_run.proofs.Ending.{course-job}
 
@@ -41,10 +39,6 @@ job-read : (workflow name : List ℕ) (files : Named) (inputs : Loaded) (log : L
     → job_of (form.Replay (record { workflow = workflow; log = name })) files ≡ Ok (job.Replay (record { inputs = inputs; log = log }))
 unfolding job_of
 job-read workflow name files inputs log read loaded got = rw (read, loaded, got) refl
-
--- no line of the front is illegal
-pub none-illegal : (query : Query) (log : Log) → SendersFirst query.flow → IsLegal query log → illegal_line query log ≡ None
-none-illegal query log senders legal = (illegal_lines_are_first query log senders legal.text).0.1 legal
 
 pub fronts_are_replayed : FrontsAreReplayed
 fronts_are_replayed workflow name files inputs batch items more beside legal got few =
