@@ -2,8 +2,11 @@
 use Rattle.std.specs.Prelude.{◌≡◌, ◌++◌, ℕ, List, [], Bool, true, false, Result, Ok, Err, ⊤}
 use Rattle.amber_log.specs.declared.command.Command.{Command}
 use Rattle.amber_script.specs.Script.{BadLine, script_lines}
+use Rattle.amber_script.specs.declared.error.ReadErr.{ReadErr}
+use Rattle.amber_script.specs.declared.error.ReadErr.TheVariants as read_err
 use Rattle.amber_script.specs.declared.error.ScriptErr.{ScriptErr}
 use Rattle.amber_script.specs.declared.error.ScriptErr.TheVariants.{Bad, NoMemory}
+use Rattle.amber_script.specs.declared.error.ScriptWhy.{ScriptWhy}
 use Rattle.amber_script.specs.declared.script_line.ScriptLine.{ScriptLine}
 use Rattle.amber_script.specs.declared.script_line.ScriptLine.TheVariants as script_line
 
@@ -12,6 +15,14 @@ abbrev pub AnswersScript : Result (List Command) ScriptErr → Result (List Comm
 AnswersScript (Ok commands) meant = meant ≡ Ok commands
 AnswersScript (Err (Bad line why)) meant = meant ≡ Err (record { line = line; why = why })
 AnswersScript (Err NoMemory) meant = ⊤
+
+-- ---- word by word
+
+-- what the words mean; the first reason why they mean nothing; or nothing, where memory ran out
+abbrev pub ReadsAs : {A : Type 0} → Result A ReadErr → Result A ScriptWhy → Type 0
+ReadsAs (Ok read) meant = meant ≡ Ok read
+ReadsAs (Err (read_err.Bad why)) meant = meant ≡ Err why
+ReadsAs (Err read_err.NoMemory) meant = ⊤
 
 -- ---- line by line
 

@@ -6,11 +6,11 @@ ghost use Rattle.amber_rows.specs.Columns.{column_kind_at, kind_of};
 ghost use Rattle.amber_rows.specs.Suits.{same_kind};
 ghost use Rattle.amber_log.specs.Fits.{is_cell_of};
 ghost use Rattle.amber_log.specs.Operands.{comparison_of};
+ghost use Rattle.amber_script.specs.Answers.{ReadsAs};
 ghost use Rattle.amber_script.specs.Commands.{number_of_column, condition_on, script_constant};
 
-use crate::error::ScriptWhy;
+use crate::error::{ReadErr, ScriptWhy};
 use amber_rows::{Cmp, ColKind, Column, Cond, Text, Value, read_int};
-use std::alloc::AllocError;
 
 /// The comparison with this sign.
 #[tactic(auto, unfolding(amber_log::specs::Operands::comparison_of))]
@@ -59,47 +59,33 @@ pub fn column_kind_at(columns: &[Column], number: u32) -> Option<ColKind>
 }
 
 /// The constant that a word is in a column of this kind.
-pub fn read_constant(kind: ColKind, word: &Text) -> Result<Result<Value, ScriptWhy>, AllocError>
-    ensures constant { IfOk result (λ read. read ≡ script_constant kind word.now) }
-    ensures kind { IfOk result (λ read.
-        IfOk read (λ constant. same_kind kind (kind_of constant) ≡ true)) }
+pub fn read_constant(kind: ColKind, word: &Text) -> Result<Value, ReadErr>
+    ensures constant { ReadsAs result (script_constant kind word.now) }
+    ensures kind { IfOk result (λ constant. same_kind kind (kind_of constant) ≡ true) }
 {
     match kind {
-        ColKind::Int => match read_int(word.get().as_bytes()) {
-            Some(number) => Ok(Ok(Value::Int(number))),
-            None => Ok(Err(ScriptWhy::Mismatch)),
-        },
-        ColKind::Text => Ok(Ok(Value::Text(word.clone()?))),
+        ColKind::Int => {
+            let number = read_int(word.get().as_bytes()).ok_or(ScriptWhy::Mismatch)?;
+            Ok(Value::Int(number))
+        }
+        ColKind::Text => Ok(Value::Text(word.clone()?)),
     }
 }
 
 /// The condition on the column with this name, where it is compared so with the constant that a word is.
 #[tactic(auto, using(crate::proofs::Fitting::is_cell))]
-pub fn read_condition(
-    columns: &[Column],
-    name: &str,
-    op: Cmp,
-    word: &Text,
-) -> Result<Result<Cond, ScriptWhy>, AllocError>
+pub fn read_condition(columns: &[Column], name: &str, op: Cmp, word: &Text) -> Result<Cond, ReadErr>
     requires { length columns.now ≤ 64 }
-    ensures condition { IfOk result
-        (λ read. read ≡ condition_on columns.now name.now op word.now) }
-    ensures cell { IfOk result (λ read. IfOk read (λ cond.
-        is_cell_of (nth columns.now cond.column) cond.constant ≡ true)) }
+    ensures condition { ReadsAs result (condition_on columns.now name.now op word.now) }
+    ensures cell { IfOk result (λ cond.
+        is_cell_of (nth columns.now cond.column) cond.constant ≡ true) }
 {
-    let column = match find_column(columns, name) {
-        Ok(column) => column,
-        Err(why) => return Ok(Err(why)),
-    };
-    let Some(kind) = column_kind_at(columns, column) else {
-        return Ok(Err(ScriptWhy::Column));
-    };
-    match read_constant(kind, word)? {
-        Ok(constant) => Ok(Ok(Cond {
-            column,
-            op,
-            constant,
-        })),
-        Err(why) => Ok(Err(why)),
-    }
+    let column = find_column(columns, name)?;
+    let kind = column_kind_at(columns, column).ok_or(ScriptWhy::Column)?;
+    let constant = read_constant(kind, word)?;
+    Ok(Cond {
+        column,
+        op,
+        constant,
+    })
 }

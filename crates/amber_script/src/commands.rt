@@ -5,15 +5,15 @@ ghost use Rattle.std.specs.Prelude.{◌≡◌, IfOk, true};
 ghost use Rattle.amber_rows.specs.Lists.{nth};
 ghost use Rattle.amber_log.specs.Fits.{fits_at, fits_of};
 ghost use Rattle.amber_log.specs.declared.effect.Argument.TheVariants as argument;
+ghost use Rattle.amber_script.specs.Answers.{ReadsAs};
 ghost use Rattle.amber_script.specs.Commands.{break_by, break_said, command_by, command_said, operator_and_condition, operator_and_constant, operator_and_worker, is_scripted, nothing_behind, of_two, operator_behind, operator_and_rows};
 
 use crate::columns::{comparison_of, read_constant};
-use crate::error::ScriptWhy;
+use crate::error::{ReadErr, ScriptWhy};
 use crate::numbers::read_number;
 use crate::operators::{find_condition, find_operator, find_source, find_worker, settable_kind};
 use amber_log::Command;
 use amber_rows::{Cond, Flow, Text, Value};
-use std::alloc::AllocError;
 
 // The most rows that a command may ask for.
 const MOST_ROWS: u64 = 1 << 40;
@@ -45,10 +45,8 @@ fn operator_and_rows(flow: &Flow, id: &str, word: &str) -> Result<(u32, u64), Sc
         fits_at (nth flow.now said.0) (argument.Rows said.1) ≡ true) }
 {
     let op = find_source(flow, id)?;
-    match read_number(word, MOST_ROWS) {
-        Some(n) => Ok((op, n)),
-        None => Err(ScriptWhy::Number),
-    }
+    let n = read_number(word, MOST_ROWS).ok_or(ScriptWhy::Number)?;
+    Ok((op, n))
 }
 
 // An operator that emits rows, and a number of rows.
@@ -64,37 +62,26 @@ fn rows(flow: &Flow, words: &[Text]) -> Result<(u32, u64), ScriptWhy>
 }
 
 #[tactic(auto, using(crate::proofs::Fitting::is_taken))]
-fn operator_and_constant(
-    flow: &Flow,
-    id: &str,
-    word: &Text,
-) -> Result<Result<(u32, Value), ScriptWhy>, AllocError>
-    ensures said { IfOk result (λ read. read ≡ operator_and_constant flow.now id.now word.now) }
-    ensures fits { IfOk result (λ read. IfOk read (λ said.
-        fits_at (nth flow.now said.0) (argument.Constant said.1) ≡ true)) }
+fn operator_and_constant(flow: &Flow, id: &str, word: &Text) -> Result<(u32, Value), ReadErr>
+    ensures said { ReadsAs result (operator_and_constant flow.now id.now word.now) }
+    ensures fits { IfOk result (λ said.
+        fits_at (nth flow.now said.0) (argument.Constant said.1) ≡ true) }
 {
-    let op = match find_operator(flow, id) {
-        Ok(op) => op,
-        Err(why) => return Ok(Err(why)),
-    };
-    let Some(kind) = settable_kind(flow, op) else {
-        return Ok(Err(ScriptWhy::Kind));
-    };
-    match read_constant(kind, word)? {
-        Ok(value) => Ok(Ok((op, value))),
-        Err(why) => Ok(Err(why)),
-    }
+    let op = find_operator(flow, id)?;
+    let kind = settable_kind(flow, op).ok_or(ScriptWhy::Kind)?;
+    let value = read_constant(kind, word)?;
+    Ok((op, value))
 }
 
 // A filter, and another constant for it.
-fn constant(flow: &Flow, words: &[Text]) -> Result<Result<(u32, Value), ScriptWhy>, AllocError>
-    ensures said { IfOk result (λ read. read ≡ of_two (operator_and_constant flow.now) words.now) }
-    ensures fits { IfOk result (λ read. IfOk read (λ said.
-        fits_at (nth flow.now said.0) (argument.Constant said.1) ≡ true)) }
+fn constant(flow: &Flow, words: &[Text]) -> Result<(u32, Value), ReadErr>
+    ensures said { ReadsAs result (of_two (operator_and_constant flow.now) words.now) }
+    ensures fits { IfOk result (λ said.
+        fits_at (nth flow.now said.0) (argument.Constant said.1) ≡ true) }
 {
     match words {
         [id, word] => operator_and_constant(flow, id.get(), word),
-        _ => Ok(Err(ScriptWhy::Word)),
+        _ => Err(ScriptWhy::Word.into()),
     }
 }
 
@@ -122,89 +109,74 @@ fn worker(flow: &Flow, words: &[Text]) -> Result<(u32, u32), ScriptWhy>
 
 // An operator that emits rows, and a condition on one of its columns.
 #[tactic(auto, using(crate::proofs::Fitting::is_tested))]
-fn condition(flow: &Flow, words: &[Text]) -> Result<Result<(u32, Cond), ScriptWhy>, AllocError>
-    ensures said { IfOk result (λ read. read ≡ operator_and_condition flow.now words.now) }
-    ensures fits { IfOk result (λ read. IfOk read (λ said.
-        fits_at (nth flow.now said.0) (argument.Condition said.1) ≡ true)) }
+fn condition(flow: &Flow, words: &[Text]) -> Result<(u32, Cond), ReadErr>
+    ensures said { ReadsAs result (operator_and_condition flow.now words.now) }
+    ensures fits { IfOk result (λ said.
+        fits_at (nth flow.now said.0) (argument.Condition said.1) ≡ true) }
 {
     let [id, name, sign, word] = words else {
-        return Ok(Err(ScriptWhy::Word));
+        return Err(ScriptWhy::Word.into());
     };
-    let Some(comparison) = comparison_of(sign.get()) else {
-        return Ok(Err(ScriptWhy::Word));
-    };
-    let op = match find_source(flow, id.get()) {
-        Ok(op) => op,
-        Err(why) => return Ok(Err(why)),
-    };
-    match find_condition(flow, op, name.get(), comparison, word)? {
-        Ok(cond) => Ok(Ok((op, cond))),
-        Err(why) => Ok(Err(why)),
-    }
+    let comparison = comparison_of(sign.get()).ok_or(ScriptWhy::Word)?;
+    let op = find_source(flow, id.get())?;
+    let cond = find_condition(flow, op, name.get(), comparison, word)?;
+    Ok((op, cond))
 }
 
 // The command of `break`, this word and those after it.
 #[tactic(auto, unfolding(crate::specs::Commands::break_by, amber_log::specs::Fits::fits_of))]
-fn break_by(
-    flow: &Flow,
-    stop: &str,
-    words: &[Text],
-) -> Result<Result<Command, ScriptWhy>, AllocError>
-    ensures command { IfOk result (λ read. read ≡ break_by flow.now stop.now words.now) }
-    ensures fits { IfOk result (λ read. IfOk read (λ command. fits_of flow.now command ≡ true)) }
-    ensures scripted { IfOk result (λ read. IfOk read (λ command. is_scripted command ≡ true)) }
+fn break_by(flow: &Flow, stop: &str, words: &[Text]) -> Result<Command, ReadErr>
+    ensures command { ReadsAs result (break_by flow.now stop.now words.now) }
+    ensures fits { IfOk result (λ command. fits_of flow.now command ≡ true) }
+    ensures scripted { IfOk result (λ command. is_scripted command ≡ true) }
 {
     match stop {
-        "count" => Ok(rows(flow, words).map(|(op, n)| Command::Count { op, n })),
-        "when" => Ok(condition(flow, words)?.map(|(op, cond)| Command::When { op, cond })),
-        _ => Ok(Err(ScriptWhy::Word)),
+        "count" => Ok(rows(flow, words).map(|(op, n)| Command::Count { op, n })?),
+        "when" => condition(flow, words).map(|(op, cond)| Command::When { op, cond }),
+        _ => Err(ScriptWhy::Word.into()),
     }
 }
 
 // The command of `break` and these words.
-fn break_said(flow: &Flow, words: &[Text]) -> Result<Result<Command, ScriptWhy>, AllocError>
-    ensures command { IfOk result (λ read. read ≡ break_said flow.now words.now) }
-    ensures fits { IfOk result (λ read. IfOk read (λ command. fits_of flow.now command ≡ true)) }
-    ensures scripted { IfOk result (λ read. IfOk read (λ command. is_scripted command ≡ true)) }
+fn break_said(flow: &Flow, words: &[Text]) -> Result<Command, ReadErr>
+    ensures command { ReadsAs result (break_said flow.now words.now) }
+    ensures fits { IfOk result (λ command. fits_of flow.now command ≡ true) }
+    ensures scripted { IfOk result (λ command. is_scripted command ≡ true) }
 {
     match words {
         [stop, words @ ..] => break_by(flow, stop.get(), words),
-        [] => Ok(Err(ScriptWhy::Word)),
+        [] => Err(ScriptWhy::Word.into()),
     }
 }
 
 // The command of this word and those after it.
 #[tactic(auto, unfolding(crate::specs::Commands::command_by, amber_log::specs::Fits::fits_of))]
-fn command_by(
-    flow: &Flow,
-    name: &str,
-    words: &[Text],
-) -> Result<Result<Command, ScriptWhy>, AllocError>
-    ensures command { IfOk result (λ read. read ≡ command_by flow.now name.now words.now) }
-    ensures fits { IfOk result (λ read. IfOk read (λ command. fits_of flow.now command ≡ true)) }
-    ensures scripted { IfOk result (λ read. IfOk read (λ command. is_scripted command ≡ true)) }
+fn command_by(flow: &Flow, name: &str, words: &[Text]) -> Result<Command, ReadErr>
+    ensures command { ReadsAs result (command_by flow.now name.now words.now) }
+    ensures fits { IfOk result (λ command. fits_of flow.now command ≡ true) }
+    ensures scripted { IfOk result (λ command. is_scripted command ≡ true) }
 {
     match name {
-        "run" => Ok(nothing(words).map(|()| Command::Run)),
-        "pause" => Ok(rows(flow, words).map(|(op, n)| Command::Pause { op, n })),
+        "run" => Ok(nothing(words).map(|()| Command::Run)?),
+        "pause" => Ok(rows(flow, words).map(|(op, n)| Command::Pause { op, n })?),
         "break" => break_said(flow, words),
-        "clear" => Ok(operator(flow, words).map(|op| Command::Clear { op })),
-        "set" => Ok(constant(flow, words)?.map(|(op, value)| Command::Set { op, value })),
-        "drop" => Ok(worker(flow, words).map(|(op, worker)| Command::Drop { op, worker })),
-        "inspect" => Ok(operator(flow, words).map(|op| Command::Inspect { op })),
-        "lose" => Ok(worker(flow, words).map(|(op, worker)| Command::Lose { op, worker })),
-        _ => Ok(Err(ScriptWhy::Word)),
+        "clear" => Ok(operator(flow, words).map(|op| Command::Clear { op })?),
+        "set" => constant(flow, words).map(|(op, value)| Command::Set { op, value }),
+        "drop" => Ok(worker(flow, words).map(|(op, worker)| Command::Drop { op, worker })?),
+        "inspect" => Ok(operator(flow, words).map(|op| Command::Inspect { op })?),
+        "lose" => Ok(worker(flow, words).map(|(op, worker)| Command::Lose { op, worker })?),
+        _ => Err(ScriptWhy::Word.into()),
     }
 }
 
 /// The command of these words, or the first reason why they mean none.
-pub fn read_command(flow: &Flow, words: &[Text]) -> Result<Result<Command, ScriptWhy>, AllocError>
-    ensures command { IfOk result (λ read. read ≡ command_said flow.now words.now) }
-    ensures fits { IfOk result (λ read. IfOk read (λ command. fits_of flow.now command ≡ true)) }
-    ensures scripted { IfOk result (λ read. IfOk read (λ command. is_scripted command ≡ true)) }
+pub fn read_command(flow: &Flow, words: &[Text]) -> Result<Command, ReadErr>
+    ensures command { ReadsAs result (command_said flow.now words.now) }
+    ensures fits { IfOk result (λ command. fits_of flow.now command ≡ true) }
+    ensures scripted { IfOk result (λ command. is_scripted command ≡ true) }
 {
     match words {
         [name, words @ ..] => command_by(flow, name.get(), words),
-        [] => Ok(Err(ScriptWhy::Word)),
+        [] => Err(ScriptWhy::Word.into()),
     }
 }

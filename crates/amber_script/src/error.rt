@@ -1,8 +1,10 @@
-//! Why a script is refused.
+//! Why a script is refused, and why its words were not read.
 
 ghost use Rattle.std.specs.Prelude.{◌≡◌, Some, codes};
 ghost use Rattle.amber_script.specs.Reasons.{script_reason_word};
+ghost use Rattle.amber_script.specs.declared.error.ReadErr.TheVariants as read_err;
 
+use std::alloc::AllocError;
 use std::fmt;
 use thiserror::Error;
 
@@ -59,4 +61,27 @@ pub enum ScriptErr {
     /// Memory ran out.
     #[error("out of memory")]
     NoMemory,
+}
+
+/// Why words were not read: they are wrong, or memory ran out.
+#[derive(Clone, Copy)]
+pub(crate) enum ReadErr {
+    Bad(ScriptWhy),
+    NoMemory,
+}
+
+impl From<ScriptWhy> for ReadErr {
+    ghost from_gives = { λ why e. e ≡ read_err.Bad why };
+
+    fn from(why: ScriptWhy) -> ReadErr {
+        ReadErr::Bad(why)
+    }
+}
+
+impl From<AllocError> for ReadErr {
+    ghost from_gives = { λ _ e. e ≡ read_err.NoMemory };
+
+    fn from(_error: AllocError) -> ReadErr {
+        ReadErr::NoMemory
+    }
 }

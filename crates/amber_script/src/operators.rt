@@ -5,14 +5,14 @@ ghost use Rattle.std.specs.Prelude.{◌≡◌, ◌<◌, bytes_eq, length, positi
 ghost use Rattle.amber_rows.specs.Lists.{nth};
 ghost use Rattle.amber_rows.specs.Columns.{schema_of};
 ghost use Rattle.amber_log.specs.Fits.{has_worker, is_cell_of, is_source, is_there};
+ghost use Rattle.amber_script.specs.Answers.{ReadsAs};
 ghost use Rattle.amber_script.specs.Commands.{condition_on, filtered_kind, operator_named, settable_kind, source_named, worker_named};
 
 use crate::columns::{column_kind_at, read_condition};
-use crate::error::ScriptWhy;
+use crate::error::{ReadErr, ScriptWhy};
 use crate::numbers::{is_canonical, number_below};
 use amber_log::is_source;
 use amber_rows::{Cmp, ColKind, Cond, Flow, Schema, Text, What};
-use std::alloc::AllocError;
 
 fn place_of(flow: &Flow, id: &str) -> Option<usize>
     ensures place { result ≡ position (λ operator. bytes_eq operator.id id.now) flow.now }
@@ -93,15 +93,13 @@ pub fn find_condition(
     name: &str,
     comparison: Cmp,
     word: &Text,
-) -> Result<Result<Cond, ScriptWhy>, AllocError>
-    ensures condition { IfOk result (λ read.
-        read ≡ condition_on (schema_of (nth flow.now op)) name.now comparison word.now) }
-    ensures cell { IfOk result (λ read. IfOk read (λ cond.
-        is_cell_of (nth (schema_of (nth flow.now op)) cond.column) cond.constant ≡ true)) }
+) -> Result<Cond, ReadErr>
+    ensures condition { ReadsAs result
+        (condition_on (schema_of (nth flow.now op)) name.now comparison word.now) }
+    ensures cell { IfOk result (λ cond.
+        is_cell_of (nth (schema_of (nth flow.now op)) cond.column) cond.constant ≡ true) }
 {
     let _operators = flow.get();
-    match flow.operator(op) {
-        None => Ok(Err(ScriptWhy::Column)),
-        Some(operator) => read_condition(operator.schema.get(), name, comparison, word),
-    }
+    let operator = flow.operator(op).ok_or(ScriptWhy::Column)?;
+    read_condition(operator.schema.get(), name, comparison, word)
 }

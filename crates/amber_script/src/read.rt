@@ -4,13 +4,13 @@ ghost use Rattle.std.specs.Prelude.{◌≡◌, ◌+◌, ◌∷◌, List, ℕ, If
 ghost use Rattle.std.specs.List.{list_all};
 ghost use Rattle.amber_log.specs.Fits.{fits_of};
 ghost use Rattle.std.specs.Str.Lines.{strip_carriage_return};
-ghost use Rattle.amber_script.specs.Answers.{AnswersScript, ForCommand, LeadsBehind, after};
+ghost use Rattle.amber_script.specs.Answers.{AnswersScript, ForCommand, LeadsBehind, ReadsAs, after};
 ghost use Rattle.amber_script.specs.Commands.{is_scripted, read_command};
 ghost use Rattle.amber_script.specs.Script.{commands_from, said_by, script_of};
 ghost use Rattle.amber_script.specs.Words.{script_words_of};
 
 use crate::commands::read_command;
-use crate::error::{ScriptErr, ScriptWhy};
+use crate::error::{ReadErr, ScriptErr, ScriptWhy};
 use crate::lexer::{read_texts, read_words};
 use crate::lines::{next_line, says_something, without_return};
 use crate::script_line::ScriptLine;
@@ -20,22 +20,13 @@ use std::alloc::{AllocError, Global};
 
 // The command of a line that says something, or the first reason why it has none.
 #[tactic(auto, unfolding(crate::specs::Commands::read_command))]
-fn read_said(
-    alloc: Global,
-    line: &[u8],
-    flow: &Flow,
-) -> Result<Result<Command, ScriptWhy>, AllocError>
-    ensures command { IfOk result
-        (λ read. read ≡ read_command flow.now (script_words_of line.now)) }
-    ensures fits { IfOk result (λ read. IfOk read (λ command. fits_of flow.now command ≡ true)) }
-    ensures scripted { IfOk result (λ read. IfOk read (λ command. is_scripted command ≡ true)) }
+fn read_said(alloc: Global, line: &[u8], flow: &Flow) -> Result<Command, ReadErr>
+    ensures command { ReadsAs result (read_command flow.now (script_words_of line.now)) }
+    ensures fits { IfOk result (λ command. fits_of flow.now command ≡ true) }
+    ensures scripted { IfOk result (λ command. is_scripted command ≡ true) }
 {
-    let Some(words) = read_words(alloc, line)? else {
-        return Ok(Err(ScriptWhy::Word));
-    };
-    let Some(texts) = read_texts(alloc, words.as_slice())? else {
-        return Ok(Err(ScriptWhy::Word));
-    };
+    let words = read_words(alloc, line)?.ok_or(ScriptWhy::Word)?;
+    let texts = read_texts(alloc, words.as_slice())?.ok_or(ScriptWhy::Word)?;
     read_command(flow, texts.as_slice())
 }
 
@@ -54,9 +45,10 @@ pub fn read_line(alloc: Global, line: &[u8], flow: &Flow) -> Result<ScriptLine, 
     if !says_something(line) {
         return Ok(ScriptLine::Skipped);
     }
-    match read_said(alloc, line, flow)? {
+    match read_said(alloc, line, flow) {
         Ok(command) => Ok(ScriptLine::Command(command)),
-        Err(why) => Ok(ScriptLine::Bad(why)),
+        Err(ReadErr::Bad(why)) => Ok(ScriptLine::Bad(why)),
+        Err(ReadErr::NoMemory) => Err(AllocError),
     }
 }
 
