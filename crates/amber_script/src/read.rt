@@ -72,10 +72,9 @@ fn add_line(
 {
     match read_line(alloc, line, flow) {
         Ok(ScriptLine::Skipped) => Ok(()),
-        Ok(ScriptLine::Command(command)) => match commands.push(command) {
-            Ok(()) => Ok(()),
-            Err(_) => Err(ScriptErr::NoMemory),
-        },
+        Ok(ScriptLine::Command(command)) => {
+            commands.push(command).map_err(|_| ScriptErr::NoMemory)
+        }
         Ok(ScriptLine::Bad(why)) => Err(ScriptErr::Bad { line: number, why }),
         Err(_) => Err(ScriptErr::NoMemory),
     }
@@ -95,10 +94,7 @@ pub fn read_script(alloc: Global, bytes: &[u8], flow: &Flow) -> Result<Commands,
     let mut more = true;
     while more {
         let (line, behind) = next_line(rest);
-        match add_line(alloc, line, number, flow, &mut commands) {
-            Ok(()) => {}
-            Err(why) => return Err(why),
-        }
+        add_line(alloc, line, number, flow, &mut commands)?;
         match behind {
             Some(text) => {
                 rest = text;

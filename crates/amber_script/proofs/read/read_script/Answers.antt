@@ -12,9 +12,9 @@ loop-more-preserved c =
     let line = rw c.in-None.is at c.next_line.ensures.line in
     let left : lines_left c.loop-more.more c.loop-more.rest.now ≡ strip_carriage_return c.next_line.result.0.now ∷ [] = rw c.loop-more-test.true line in
     record {
-      meant = c.loop-more.invariant.meant ∙ ap meaning left ∙ c.in-Ok.ensures.leads [] ∙ after_end c.add_line.new.commands.items (c.loop-more.number + 1) c.args.flow.now ∙ sym (after_end c.add_line.new.commands.items c.loop-more.number c.args.flow.now);
-      fit = c.in-Ok.ensures.fits;
-      scripted = c.in-Ok.ensures.scripted;
+      meant = c.loop-more.invariant.meant ∙ ap meaning left ∙ c.in_ok-add_line.ensures.leads [] ∙ after_end c.add_line.new.commands.items (c.loop-more.number + 1) c.args.flow.now ∙ sym (after_end c.add_line.new.commands.items c.loop-more.number c.args.flow.now);
+      fit = c.in_ok-add_line.ensures.fits;
+      scripted = c.in_ok-add_line.ensures.scripted;
       nth = c.loop-more.invariant.nth;
     }
 
