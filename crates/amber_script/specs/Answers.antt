@@ -19,10 +19,10 @@ AnswersScript (Err NoMemory) meant = ⊤
 -- ---- word by word
 
 -- what the words mean; the first reason why they mean nothing; or nothing, where memory ran out
-abbrev pub ReadsAs : {A : Type 0} → Result A ReadErr → Result A ScriptWhy → Type 0
-ReadsAs (Ok read) meant = meant ≡ Ok read
-ReadsAs (Err (read_err.Bad why)) meant = meant ≡ Err why
-ReadsAs (Err read_err.NoMemory) meant = ⊤
+abbrev pub AnswersWords : {A : Type 0} → Result A ReadErr → Result A ScriptWhy → Type 0
+AnswersWords (Ok read) meant = meant ≡ Ok read
+AnswersWords (Err (read_err.Bad why)) meant = meant ≡ Err why
+AnswersWords (Err read_err.NoMemory) meant = ⊤
 
 -- ---- line by line
 

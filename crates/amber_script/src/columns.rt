@@ -6,7 +6,7 @@ ghost use Rattle.amber_rows.specs.Columns.{column_kind_at, kind_of};
 ghost use Rattle.amber_rows.specs.Suits.{same_kind};
 ghost use Rattle.amber_log.specs.Fits.{is_cell_of};
 ghost use Rattle.amber_log.specs.Operands.{comparison_of};
-ghost use Rattle.amber_script.specs.Answers.{ReadsAs};
+ghost use Rattle.amber_script.specs.Answers.{AnswersWords};
 ghost use Rattle.amber_script.specs.Commands.{number_of_column, condition_on, script_constant};
 
 use crate::error::{ReadErr, ScriptWhy};
@@ -60,7 +60,7 @@ pub fn column_kind_at(columns: &[Column], number: u32) -> Option<ColKind>
 
 /// The constant that a word is in a column of this kind.
 pub fn read_constant(kind: ColKind, word: &Text) -> Result<Value, ReadErr>
-    ensures constant { ReadsAs result (script_constant kind word.now) }
+    ensures constant { AnswersWords result (script_constant kind word.now) }
     ensures kind { IfOk result (λ constant. same_kind kind (kind_of constant) ≡ true) }
 {
     match kind {
@@ -76,7 +76,7 @@ pub fn read_constant(kind: ColKind, word: &Text) -> Result<Value, ReadErr>
 #[tactic(auto, using(crate::proofs::Fitting::is_cell))]
 pub fn read_condition(columns: &[Column], name: &str, op: Cmp, word: &Text) -> Result<Cond, ReadErr>
     requires { length columns.now ≤ 64 }
-    ensures condition { ReadsAs result (condition_on columns.now name.now op word.now) }
+    ensures condition { AnswersWords result (condition_on columns.now name.now op word.now) }
     ensures cell { IfOk result (λ cond.
         is_cell_of (nth columns.now cond.column) cond.constant ≡ true) }
 {

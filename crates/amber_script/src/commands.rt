@@ -5,7 +5,7 @@ ghost use Rattle.std.specs.Prelude.{◌≡◌, IfOk, true};
 ghost use Rattle.amber_rows.specs.Lists.{nth};
 ghost use Rattle.amber_log.specs.Fits.{fits_at, fits_of};
 ghost use Rattle.amber_log.specs.declared.effect.Argument.TheVariants as argument;
-ghost use Rattle.amber_script.specs.Answers.{ReadsAs};
+ghost use Rattle.amber_script.specs.Answers.{AnswersWords};
 ghost use Rattle.amber_script.specs.Commands.{break_by, break_said, command_by, command_said, operator_and_condition, operator_and_constant, operator_and_worker, is_scripted, nothing_behind, of_two, operator_behind, operator_and_rows};
 
 use crate::columns::{comparison_of, read_constant};
@@ -63,7 +63,7 @@ fn rows(flow: &Flow, words: &[Text]) -> Result<(u32, u64), ScriptWhy>
 
 #[tactic(auto, using(crate::proofs::Fitting::is_taken))]
 fn operator_and_constant(flow: &Flow, id: &str, word: &Text) -> Result<(u32, Value), ReadErr>
-    ensures said { ReadsAs result (operator_and_constant flow.now id.now word.now) }
+    ensures said { AnswersWords result (operator_and_constant flow.now id.now word.now) }
     ensures fits { IfOk result (λ said.
         fits_at (nth flow.now said.0) (argument.Constant said.1) ≡ true) }
 {
@@ -75,7 +75,7 @@ fn operator_and_constant(flow: &Flow, id: &str, word: &Text) -> Result<(u32, Val
 
 // A filter, and another constant for it.
 fn constant(flow: &Flow, words: &[Text]) -> Result<(u32, Value), ReadErr>
-    ensures said { ReadsAs result (of_two (operator_and_constant flow.now) words.now) }
+    ensures said { AnswersWords result (of_two (operator_and_constant flow.now) words.now) }
     ensures fits { IfOk result (λ said.
         fits_at (nth flow.now said.0) (argument.Constant said.1) ≡ true) }
 {
@@ -110,7 +110,7 @@ fn worker(flow: &Flow, words: &[Text]) -> Result<(u32, u32), ScriptWhy>
 // An operator that emits rows, and a condition on one of its columns.
 #[tactic(auto, using(crate::proofs::Fitting::is_tested))]
 fn condition(flow: &Flow, words: &[Text]) -> Result<(u32, Cond), ReadErr>
-    ensures said { ReadsAs result (operator_and_condition flow.now words.now) }
+    ensures said { AnswersWords result (operator_and_condition flow.now words.now) }
     ensures fits { IfOk result (λ said.
         fits_at (nth flow.now said.0) (argument.Condition said.1) ≡ true) }
 {
@@ -126,7 +126,7 @@ fn condition(flow: &Flow, words: &[Text]) -> Result<(u32, Cond), ReadErr>
 // The command of `break`, this word and those after it.
 #[tactic(auto, unfolding(crate::specs::Commands::break_by, amber_log::specs::Fits::fits_of))]
 fn break_by(flow: &Flow, stop: &str, words: &[Text]) -> Result<Command, ReadErr>
-    ensures command { ReadsAs result (break_by flow.now stop.now words.now) }
+    ensures command { AnswersWords result (break_by flow.now stop.now words.now) }
     ensures fits { IfOk result (λ command. fits_of flow.now command ≡ true) }
     ensures scripted { IfOk result (λ command. is_scripted command ≡ true) }
 {
@@ -139,7 +139,7 @@ fn break_by(flow: &Flow, stop: &str, words: &[Text]) -> Result<Command, ReadErr>
 
 // The command of `break` and these words.
 fn break_said(flow: &Flow, words: &[Text]) -> Result<Command, ReadErr>
-    ensures command { ReadsAs result (break_said flow.now words.now) }
+    ensures command { AnswersWords result (break_said flow.now words.now) }
     ensures fits { IfOk result (λ command. fits_of flow.now command ≡ true) }
     ensures scripted { IfOk result (λ command. is_scripted command ≡ true) }
 {
@@ -152,7 +152,7 @@ fn break_said(flow: &Flow, words: &[Text]) -> Result<Command, ReadErr>
 // The command of this word and those after it.
 #[tactic(auto, unfolding(crate::specs::Commands::command_by, amber_log::specs::Fits::fits_of))]
 fn command_by(flow: &Flow, name: &str, words: &[Text]) -> Result<Command, ReadErr>
-    ensures command { ReadsAs result (command_by flow.now name.now words.now) }
+    ensures command { AnswersWords result (command_by flow.now name.now words.now) }
     ensures fits { IfOk result (λ command. fits_of flow.now command ≡ true) }
     ensures scripted { IfOk result (λ command. is_scripted command ≡ true) }
 {
@@ -171,7 +171,7 @@ fn command_by(flow: &Flow, name: &str, words: &[Text]) -> Result<Command, ReadEr
 
 /// The command of these words, or the first reason why they mean none.
 pub fn read_command(flow: &Flow, words: &[Text]) -> Result<Command, ReadErr>
-    ensures command { ReadsAs result (command_said flow.now words.now) }
+    ensures command { AnswersWords result (command_said flow.now words.now) }
     ensures fits { IfOk result (λ command. fits_of flow.now command ≡ true) }
     ensures scripted { IfOk result (λ command. is_scripted command ≡ true) }
 {

@@ -5,7 +5,7 @@ ghost use Rattle.std.specs.Prelude.{◌≡◌, ◌<◌, bytes_eq, length, positi
 ghost use Rattle.amber_rows.specs.Lists.{nth};
 ghost use Rattle.amber_rows.specs.Columns.{schema_of};
 ghost use Rattle.amber_log.specs.Fits.{has_worker, is_cell_of, is_source, is_there};
-ghost use Rattle.amber_script.specs.Answers.{ReadsAs};
+ghost use Rattle.amber_script.specs.Answers.{AnswersWords};
 ghost use Rattle.amber_script.specs.Commands.{condition_on, filtered_kind, operator_named, settable_kind, source_named, worker_named};
 
 use crate::columns::{column_kind_at, read_condition};
@@ -94,7 +94,7 @@ pub fn find_condition(
     comparison: Cmp,
     word: &Text,
 ) -> Result<Cond, ReadErr>
-    ensures condition { ReadsAs result
+    ensures condition { AnswersWords result
         (condition_on (schema_of (nth flow.now op)) name.now comparison word.now) }
     ensures cell { IfOk result (λ cond.
         is_cell_of (nth (schema_of (nth flow.now op)) cond.column) cond.constant ≡ true) }

@@ -4,7 +4,7 @@ ghost use Rattle.std.specs.Prelude.{◌≡◌, ◌+◌, ◌∷◌, List, ℕ, If
 ghost use Rattle.std.specs.List.{list_all};
 ghost use Rattle.amber_log.specs.Fits.{fits_of};
 ghost use Rattle.std.specs.Str.Lines.{strip_carriage_return};
-ghost use Rattle.amber_script.specs.Answers.{AnswersScript, ForCommand, LeadsBehind, ReadsAs, after};
+ghost use Rattle.amber_script.specs.Answers.{AnswersScript, AnswersWords, ForCommand, LeadsBehind, after};
 ghost use Rattle.amber_script.specs.Commands.{is_scripted, read_command};
 ghost use Rattle.amber_script.specs.Script.{commands_from, said_by, script_of};
 ghost use Rattle.amber_script.specs.Words.{script_words_of};
@@ -21,7 +21,7 @@ use std::alloc::{AllocError, Global};
 // The command of a line that says something, or the first reason why it has none.
 #[tactic(auto, unfolding(crate::specs::Commands::read_command))]
 fn read_said(alloc: Global, line: &[u8], flow: &Flow) -> Result<Command, ReadErr>
-    ensures command { ReadsAs result (read_command flow.now (script_words_of line.now)) }
+    ensures command { AnswersWords result (read_command flow.now (script_words_of line.now)) }
     ensures fits { IfOk result (λ command. fits_of flow.now command ≡ true) }
     ensures scripted { IfOk result (λ command. is_scripted command ≡ true) }
 {
