@@ -1,6 +1,7 @@
 mod ListFacts
 mod ColumnFacts
 mod OperatorFacts
+mod ReadFacts
 mod PartFacts
 mod ReaderFacts
 mod TreeFacts

@@ -1,5 +1,5 @@
 -- What the readers answer.
-use Rattle.std.specs.Prelude.{◌≡◌, List, Option, Some, None, Result, Ok, Err, ⊤}
+use Rattle.std.specs.Prelude.{◌≡◌, ℕ, List, Option, Some, None, Result, Ok, Err, ⊤}
 use Rattle.serde_json.specs.Data.{Data}
 use Rattle.serde_json.specs.View.{view}
 use Rattle.serde_json.specs.declared.value.Value.{Value}
@@ -9,6 +9,18 @@ use Rattle.amber_flow.specs.declared.error.Fault.{Fault}
 use Rattle.amber_flow.specs.declared.error.FlowErr.{FlowErr}
 use Rattle.amber_flow.specs.declared.error.FlowErr.TheVariants.{Bad, NoMemory}
 use Rattle.amber_flow.specs.declared.error.FlowWhy.TheVariants as why
+use Rattle.amber_flow.specs.declared.error.ReadErr.{ReadErr}
+use Rattle.amber_flow.specs.declared.error.ReadErr.TheVariants as read_err
+
+-- why the whole is not read, where this is why the part with a number is not
+abbrev pub failure_at : ℕ → ReadErr → FlowErr
+failure_at op (read_err.Bad reason) = Bad op reason
+failure_at op read_err.NoMemory = NoMemory
+
+-- the first reason and the operator at fault; or nothing, where memory ran out
+abbrev pub RefusesAt : {A : Type 0} → FlowErr → Result A Fault → Type 0
+RefusesAt (Bad op reason) meant = meant ≡ Err (fault_at op reason)
+RefusesAt NoMemory meant = ⊤
 
 -- the value that was meant; `Json` of the whole where none was; or nothing, where memory ran out
 abbrev pub AnswersTree : Result Value FlowErr → Option Data → Type 0

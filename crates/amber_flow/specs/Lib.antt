@@ -8,5 +8,6 @@ pub mod Joins
 pub mod Names
 pub mod Operators
 pub mod Parts
+pub mod Reads
 pub mod Words
 pub mod Workflow

@@ -1,13 +1,16 @@
 //! Reads the aggregates of a group from texts. Rests on `columns`; gives `Agg` of `amber_rows`.
 
-ghost use Rattle.std.specs.Prelude.{◌≡◌, ◌++◌, ◌≤◌, IfOk, OnOk, is_some, length, map, option_map};
+ghost use Rattle.std.specs.Prelude.{◌≡◌, ◌++◌, ◌≤◌, IfOk, OnOk, is_some, length, map, ok_or, option_map};
 ghost use Rattle.std.specs.List.{filter_map, list_all};
 ghost use Rattle.amber_rows.specs.Columns.{agg_kind};
 ghost use Rattle.amber_flow.specs.Aggregates.{agg_column, agg_of, behind, is_agg_text};
+ghost use Rattle.amber_flow.specs.Reads.{Reads};
+ghost use Rattle.amber_flow.specs.declared.error.FlowWhy.TheVariants.{Column as NoColumn};
 ghost use Rattle.amber_rows.specs.Chain.{each};
 
 use crate::columns::{find_column, kind_of_column};
-use amber_rows::{Agg, ColKind, Column, Text};
+use crate::error::{FlowWhy, ReadErr};
+use amber_rows::{Agg, Aggs, ColKind, Column, Text};
 use std::alloc::{AllocError, Global};
 
 /// What follows a word at the front of a text.
@@ -53,25 +56,17 @@ fn read_agg(columns: &[Column], text: &str) -> Option<Agg>
     None
 }
 
-/// The aggregates that texts mean, if the columns that they name are there.
-pub fn read_aggs(
-    alloc: Global,
-    columns: &[Column],
-    texts: &[&str],
-) -> Result<Option<Vec<Agg>>, AllocError>
+/// The aggregates that texts mean, where the columns that they name are there.
+pub fn read_aggs(alloc: Global, columns: &[Column], texts: &[&str]) -> Result<Aggs, ReadErr>
     requires { length columns.now ≤ 64 }
-    ensures { IfOk result
-        (λ read. option_map (λ aggs. aggs.items) read
-        ≡ each (agg_of columns.now) (map (λ text. text.now) texts.now)) }
+    ensures { Reads result (ok_or (each (agg_of columns.now)
+        (map (λ text. text.now) texts.now)) NoColumn) }
 {
     let mut aggs = Vec::new(alloc);
     for text in texts {
-        match read_agg(columns, text) {
-            Some(agg) => aggs.push(agg)?,
-            None => return Ok(None),
-        }
+        aggs.push(read_agg(columns, text).ok_or(FlowWhy::Column)?)?;
     }
-    Ok(Some(aggs))
+    Ok(Aggs::new(aggs))
 }
 
 /// The kind of an aggregate's column, if the aggregate may stand over these columns.

@@ -1,63 +1,48 @@
 //! Reads a scan's columns, and finds columns by name or number. Over `Column` of `amber_rows`.
 
-ghost use Rattle.std.specs.Prelude.{◌≡◌, ◌++◌, OnOk, ◌+◌, ◌^◌, ◌≤◌, ◌<◌, true, bytes_eq, length, map, option_map, position, IfOk, IfSome, MatchResult, Ok, Err};
+ghost use Rattle.std.specs.Prelude.{◌≡◌, ◌++◌, OnOk, ◌+◌, ◌^◌, ◌≤◌, ◌<◌, true, bytes_eq, length, map, ok_or, option_map, position, IfOk, IfSome};
 ghost use Rattle.std.specs.List.{filter_map, list_all};
 ghost use Rattle.serde_json.specs.View.{view};
 ghost use Rattle.amber_rows.specs.Columns.{names_of, are_apart, is_column_name, column_kind_at};
 ghost use Rattle.amber_rows.specs.Chain.{each};
 ghost use Rattle.amber_flow.specs.Columns.{column_named, column_number, column_of, columns_of};
+ghost use Rattle.amber_flow.specs.Reads.{Reads};
+ghost use Rattle.amber_flow.specs.declared.error.FlowWhy.TheVariants.{Column as NoColumn};
 
-use crate::error::FlowWhy;
+use crate::error::{FlowWhy, ReadErr};
 use crate::fields::text_item;
 use crate::names::{column_kind, may_name_column};
-use amber_rows::{ColKind, Column, Text};
+use amber_rows::{ColKind, Cols, Column, Schema, Text};
 use serde_json::Value;
 use std::alloc::{AllocError, Global};
 
 /// The column that a pair of a name and a kind means.
 #[tactic(auto, unfolding(crate::specs::Columns::column_of))]
-fn read_column(alloc: Global, tree: &Value) -> Result<Result<Column, FlowWhy>, AllocError>
-    ensures column { IfOk result (λ read. read ≡ column_of (view tree.now)) }
-    ensures named { IfOk result (λ read. IfOk read (λ column. is_column_name column.name ≡ true)) }
+fn read_column(alloc: Global, tree: &Value) -> Result<Column, ReadErr>
+    ensures column { Reads result (column_of (view tree.now)) }
+    ensures named { IfOk result (λ column. is_column_name column.name ≡ true) }
 {
-    let Some(name) = text_item(tree, 0) else {
-        return Ok(Err(FlowWhy::Shape));
-    };
-    let Some(word) = text_item(tree, 1) else {
-        return Ok(Err(FlowWhy::Shape));
-    };
-    if tree.get(2).is_some() {
-        return Ok(Err(FlowWhy::Shape));
+    let name = text_item(tree, 0).ok_or(FlowWhy::Shape)?;
+    let word = text_item(tree, 1).ok_or(FlowWhy::Shape)?;
+    if tree.get(2).is_some() || !may_name_column(name) {
+        return Err(ReadErr::Bad(FlowWhy::Shape));
     }
-    if !may_name_column(name) {
-        return Ok(Err(FlowWhy::Shape));
-    }
-    let Some(kind) = column_kind(word) else {
-        return Ok(Err(FlowWhy::Shape));
-    };
+    let kind = column_kind(word).ok_or(FlowWhy::Shape)?;
     let name = Text::new(alloc, name)?;
-    Ok(Ok(Column { name, kind }))
+    Ok(Column { name, kind })
 }
 
 /// The columns that a list of pairs means.
-pub fn read_columns(
-    alloc: Global,
-    trees: &[Value],
-) -> Result<Result<Vec<Column>, FlowWhy>, AllocError>
-    ensures columns { IfOk result (λ read. MatchResult read
-        (λ columns. columns_of (map view trees.now) ≡ Ok columns.items)
-        (λ why. columns_of (map view trees.now) ≡ Err why)) }
+pub fn read_columns(alloc: Global, trees: &[Value]) -> Result<Schema, ReadErr>
+    ensures columns { Reads result (columns_of (map view trees.now)) }
     ensures named { IfOk result
-        (λ read. IfOk read (λ columns. list_all is_column_name (names_of columns.items) ≡ true)) }
+        (λ columns. list_all is_column_name (names_of columns) ≡ true) }
 {
     let mut columns = Vec::new(alloc);
     for tree in trees {
-        match read_column(alloc, tree)? {
-            Ok(column) => columns.push(column)?,
-            Err(why) => return Ok(Err(why)),
-        }
+        columns.push(read_column(alloc, tree)?)?;
     }
-    Ok(Ok(columns))
+    Ok(Schema::new(columns))
 }
 
 /// The place of the column with this name.
@@ -91,24 +76,17 @@ pub fn column_with<'c>(columns: &'c [Column], name: &str) -> Option<&'c Column>
     }
 }
 
-/// The numbers of the columns with these names, if each is a column's.
-pub fn find_columns(
-    alloc: Global,
-    columns: &[Column],
-    names: &[&str],
-) -> Result<Option<Vec<u32>>, AllocError>
+/// The numbers of the columns with these names, where each is a column's.
+pub fn find_columns(alloc: Global, columns: &[Column], names: &[&str]) -> Result<Cols, ReadErr>
     requires { length columns.now ≤ 64 }
-    ensures { IfOk result (λ found. option_map (λ numbers. numbers.items) found
-        ≡ each (column_number columns.now) (map (λ name. name.now) names.now)) }
+    ensures { Reads result (ok_or (each (column_number columns.now)
+        (map (λ name. name.now) names.now)) NoColumn) }
 {
     let mut numbers = Vec::new(alloc);
     for name in names {
-        match find_column(columns, name) {
-            Some(number) => numbers.push(number)?,
-            None => return Ok(None),
-        }
+        numbers.push(find_column(columns, name).ok_or(FlowWhy::Column)?)?;
     }
-    Ok(Some(numbers))
+    Ok(Cols::new(numbers))
 }
 
 /// The kind of the column with this number.

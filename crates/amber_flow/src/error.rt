@@ -1,8 +1,12 @@
 //! Why bytes are no workflow, with the word of each reason.
 
 ghost use Rattle.std.specs.Prelude.{◌≡◌, Some};
+ghost use Rattle.amber_flow.specs.Answers.{failure_at};
 ghost use Rattle.amber_flow.specs.Words.{flow_reason_word};
+ghost use Rattle.amber_flow.specs.declared.error.FlowErr.TheVariants as flow_err;
+ghost use Rattle.amber_flow.specs.declared.error.ReadErr.TheVariants as read_err;
 
+use std::alloc::{AllocError, AllocFailed};
 use std::fmt;
 use thiserror::Error;
 
@@ -80,9 +84,74 @@ pub enum FlowErr {
     NoMemory,
 }
 
+impl<T: Drop> From<AllocFailed<T>> for FlowErr {
+    ghost from_gives = { λ _ failure. failure ≡ flow_err.NoMemory };
+
+    fn from(_error: AllocFailed<T>) -> FlowErr {
+        FlowErr::NoMemory
+    }
+}
+
 /// The first reason why bytes are no workflow, and the operator at fault, or 0.
 #[derive(Clone, Copy)]
 pub struct Fault {
     pub op: u32,
     pub why: FlowWhy,
+}
+
+impl From<Fault> for FlowErr {
+    ghost from_gives = { λ fault failure. failure ≡ flow_err.Bad fault.op fault.why };
+
+    fn from(fault: Fault) -> FlowErr {
+        FlowErr::Bad {
+            op: fault.op,
+            why: fault.why,
+        }
+    }
+}
+
+/// Why a part of a workflow was not read.
+#[derive(Clone, Copy)]
+pub enum ReadErr {
+    /// It is no such part.
+    Bad(FlowWhy),
+    /// Memory ran out.
+    NoMemory,
+}
+
+impl ReadErr {
+    /// The failure of the whole, where the part is the operator with this number, or, with 0, the
+    /// whole.
+    pub fn at(self, op: u32) -> FlowErr
+        ensures { result ≡ failure_at op self }
+    {
+        match self {
+            ReadErr::Bad(why) => FlowErr::Bad { op, why },
+            ReadErr::NoMemory => FlowErr::NoMemory,
+        }
+    }
+}
+
+impl From<FlowWhy> for ReadErr {
+    ghost from_gives = { λ why failure. failure ≡ read_err.Bad why };
+
+    fn from(why: FlowWhy) -> ReadErr {
+        ReadErr::Bad(why)
+    }
+}
+
+impl From<AllocError> for ReadErr {
+    ghost from_gives = { λ _ failure. failure ≡ read_err.NoMemory };
+
+    fn from(_error: AllocError) -> ReadErr {
+        ReadErr::NoMemory
+    }
+}
+
+impl<T: Drop> From<AllocFailed<T>> for ReadErr {
+    ghost from_gives = { λ _ failure. failure ≡ read_err.NoMemory };
+
+    fn from(_error: AllocFailed<T>) -> ReadErr {
+        ReadErr::NoMemory
+    }
 }

@@ -1,59 +1,60 @@
 //! The texts and lists in a JSON value.
 
-ghost use Rattle.std.specs.Prelude.{◌≡◌, IfOk, map, option_map};
+ghost use Rattle.std.specs.Prelude.{◌≡◌, map, ok_or, option_map, MatchResult, Ok, Err};
 ghost use Rattle.serde_json.specs.Find.{as_str};
 ghost use Rattle.serde_json.specs.View.{view};
 ghost use Rattle.amber_rows.specs.Chain.{each};
 ghost use Rattle.amber_flow.specs.Fields.{array_at, text_at, text_in, texts_at};
+ghost use Rattle.amber_flow.specs.Reads.{ReadsAs};
+ghost use Rattle.amber_flow.specs.declared.error.FlowWhy.TheVariants.{Shape};
 
+use crate::error::{FlowWhy, ReadErr};
 use serde_json::Value;
-use std::alloc::{AllocError, Global};
+use std::alloc::Global;
 
 /// The text at a key of an object.
-pub fn text_field<'v>(object: &'v Value, key: &str) -> Option<&'v str>
-    ensures { option_map (λ text. text.now) result ≡ text_at key.now (view object.now) }
+pub fn text_field<'v>(object: &'v Value, key: &str) -> Result<&'v str, FlowWhy>
+    ensures { MatchResult result
+        (λ text. Ok text.now ≡ ok_or (text_at key.now (view object.now)) Shape)
+        (λ why. Err why ≡ ok_or (text_at key.now (view object.now)) Shape) }
 {
-    object.get(key).and_then(Value::as_str)
+    object
+        .get(key)
+        .and_then(Value::as_str)
+        .ok_or(FlowWhy::Shape)
 }
 
 /// The list at a key of an object.
-pub fn list_field<'v>(object: &'v Value, key: &str) -> Option<&'v Vec<Value>>
-    ensures { option_map (λ list. map view list.now.items) result
-        ≡ array_at key.now (view object.now) }
+pub fn list_field<'v>(object: &'v Value, key: &str) -> Result<&'v [Value], FlowWhy>
+    ensures { MatchResult result
+        (λ list. Ok (map view list.now) ≡ ok_or (array_at key.now (view object.now)) Shape)
+        (λ why. Err why ≡ ok_or (array_at key.now (view object.now)) Shape) }
 {
-    object.get(key).and_then(Value::as_array)
+    let list = object
+        .get(key)
+        .and_then(Value::as_array)
+        .ok_or(FlowWhy::Shape)?;
+    Ok(list.as_slice())
 }
 
-/// The texts of a list, if each value is one.
-fn read_texts(alloc: Global, trees: &[Value]) -> Result<Option<Vec<&str>>, AllocError>
-    ensures { IfOk result
-        (λ read. option_map (λ texts. map (λ text. text.now) texts.items) read
-        ≡ each as_str (map view trees.now)) }
+/// The texts of a list, where each value is one.
+fn read_texts(alloc: Global, trees: &[Value]) -> Result<Vec<&str>, ReadErr>
+    ensures { ReadsAs (λ texts. map (λ text. text.now) texts.items) result
+        (ok_or (each as_str (map view trees.now)) Shape) }
 {
     let mut texts = Vec::new(alloc);
     for tree in trees {
-        match tree.as_str() {
-            Some(text) => texts.push(text)?,
-            None => return Ok(None),
-        }
+        texts.push(tree.as_str().ok_or(FlowWhy::Shape)?)?;
     }
-    Ok(Some(texts))
+    Ok(texts)
 }
 
-/// The texts of the list at a key of an object, if it has nothing else.
-pub fn texts_field<'v>(
-    alloc: Global,
-    object: &'v Value,
-    key: &str,
-) -> Result<Option<Vec<&'v str>>, AllocError>
-    ensures { IfOk result
-        (λ read. option_map (λ texts. map (λ text. text.now) texts.items) read
-        ≡ texts_at key.now (view object.now)) }
+/// The texts of the list at a key of an object, where it has nothing else.
+pub fn texts_field<'v>(alloc: Global, object: &'v Value, key: &str) -> Result<Vec<&'v str>, ReadErr>
+    ensures { ReadsAs (λ texts. map (λ text. text.now) texts.items) result
+        (ok_or (texts_at key.now (view object.now)) Shape) }
 {
-    match list_field(object, key) {
-        None => Ok(None),
-        Some(list) => read_texts(alloc, list.as_slice()),
-    }
+    read_texts(alloc, list_field(object, key)?)
 }
 
 /// The text at an index of a list.

@@ -11,14 +11,15 @@ ghost use Rattle.amber_flow.specs.Columns.{column_named};
 ghost use Rattle.amber_flow.specs.Groups.{group_of, group_over};
 ghost use Rattle.amber_flow.specs.Inputs.{IsNarrow};
 ghost use Rattle.amber_flow.specs.Parts.{IsMeant};
+ghost use Rattle.amber_flow.specs.Reads.{Reads};
 
 use crate::aggregates::{add_agg_columns, are_aggregates, are_summable, read_aggs};
 use crate::columns::{add_named, find_columns};
-use crate::error::FlowWhy;
+use crate::error::{FlowWhy, ReadErr};
 use crate::fields::{text_field, texts_field};
-use crate::inputs::{find_operator, schema_at};
+use crate::inputs::{find_input, schema_at};
 use crate::parts::Parts;
-use amber_rows::{Aggs, Cols, Column, Operator, Schema, What};
+use amber_rows::{Column, Operator, Schema, What};
 use serde_json::Value;
 use std::alloc::{AllocError, Global};
 
@@ -48,63 +49,40 @@ fn read_over(
     columns: &[Column],
     names: &[&str],
     texts: &[&str],
-) -> Result<Result<Parts, FlowWhy>, AllocError>
+) -> Result<Parts, ReadErr>
     requires { length columns.now ≤ 64 }
-    ensures parts { IfOk result
-        (λ read. read ≡ group_over input columns.now (map (λ name. name.now) names.now)
-        (map (λ text. text.now) texts.now)) }
-    ensures kind { IfOk result
-        (λ read. IfOk read (λ parts. (before : List OneOperator) → IsEarlier before input
-        → HasInput before input columns.now
-        → IsKind before parts.what parts.schema)) }
-    ensures sink { IfOk result (λ read. IfOk read (λ parts. is_sink parts.what ≡ false)) }
+    ensures parts { Reads result (group_over input columns.now
+        (map (λ name. name.now) names.now) (map (λ text. text.now) texts.now)) }
+    ensures kind { IfOk result (λ parts. (before : List OneOperator) → IsEarlier before input
+        → HasInput before input columns.now → IsKind before parts.what parts.schema) }
+    ensures sink { IfOk result (λ parts. is_sink parts.what ≡ false) }
 {
-    let Some(keys) = find_columns(alloc, columns, names)? else {
-        return Ok(Err(FlowWhy::Column));
-    };
-    let Some(aggs) = read_aggs(alloc, columns, texts)? else {
-        return Ok(Err(FlowWhy::Column));
-    };
-    if !are_summable(columns, aggs.as_slice()) {
-        return Ok(Err(FlowWhy::Mismatch));
+    let keys = find_columns(alloc, columns, names)?;
+    let aggs = read_aggs(alloc, columns, texts)?;
+    if !are_summable(columns, aggs.get()) {
+        return Err(ReadErr::Bad(FlowWhy::Mismatch));
     }
     let schema = group_columns(alloc, columns, names, texts)?;
-    Ok(Ok(Parts {
-        what: What::Group {
-            input,
-            keys: Cols::new(keys),
-            aggs: Aggs::new(aggs),
-        },
+    Ok(Parts {
+        what: What::Group { input, keys, aggs },
         schema,
-    }))
+    })
 }
 
 /// What a group does.
 #[tactic(auto, unfolding(crate::specs::Groups::group_of))]
-pub fn read_group(
-    alloc: Global,
-    before: &[Operator],
-    tree: &Value,
-) -> Result<Result<Parts, FlowWhy>, AllocError>
+pub fn read_group(alloc: Global, before: &[Operator], tree: &Value) -> Result<Parts, ReadErr>
     requires few { length before.now < 32 }
     requires narrow { All IsNarrow before.now }
-    ensures { IfOk result (IsMeant before.now (group_of before.now (view tree.now))) }
+    ensures { IsMeant before.now (group_of before.now (view tree.now)) result }
 {
-    let Some(id) = text_field(tree, "input") else {
-        return Ok(Err(FlowWhy::Shape));
-    };
-    let Some(names) = texts_field(alloc, tree, "keys")? else {
-        return Ok(Err(FlowWhy::Shape));
-    };
-    let Some(texts) = texts_field(alloc, tree, "aggregates")? else {
-        return Ok(Err(FlowWhy::Shape));
-    };
+    let id = text_field(tree, "input")?;
+    let names = texts_field(alloc, tree, "keys")?;
+    let texts = texts_field(alloc, tree, "aggregates")?;
     if !are_aggregates(texts.as_slice()) {
-        return Ok(Err(FlowWhy::Shape));
+        return Err(ReadErr::Bad(FlowWhy::Shape));
     }
-    let Some(input) = find_operator(before, id) else {
-        return Ok(Err(FlowWhy::Forward));
-    };
+    let input = find_input(before, id)?;
     let columns = schema_at(before, input).get();
     read_over(alloc, input, columns, names.as_slice(), texts.as_slice())
 }

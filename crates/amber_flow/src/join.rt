@@ -7,11 +7,12 @@ ghost use Rattle.amber_rows.specs.Columns.{IsEarlier, column_kind_at};
 ghost use Rattle.amber_flow.specs.Inputs.{IsNarrow};
 ghost use Rattle.amber_flow.specs.Joins.{AreKeys, are_alike, are_paired, are_same_kinds, join_of, join_over, keys_of};
 ghost use Rattle.amber_flow.specs.Parts.{IsMeant};
+ghost use Rattle.amber_flow.specs.Reads.{Reads};
 
 use crate::columns::{add_columns, find_columns, kind_of_column};
-use crate::error::FlowWhy;
+use crate::error::{FlowWhy, ReadErr};
 use crate::fields::{text_field, texts_field};
-use crate::inputs::{find_operator, schema_at};
+use crate::inputs::{find_input, schema_at};
 use crate::parts::Parts;
 use amber_rows::{ColKind, Cols, Column, Operator, Schema, What};
 use serde_json::Value;
@@ -74,28 +75,23 @@ fn read_keys(
     probe: &[Column],
     build_names: &[&str],
     probe_names: &[&str],
-) -> Result<Result<JoinKeys, FlowWhy>, AllocError>
+) -> Result<JoinKeys, ReadErr>
     requires narrow_build { length build.now ≤ 64 }
     requires narrow_probe { length probe.now ≤ 64 }
-    ensures keys { IfOk result (λ read. read ≡ keys_of build.now probe.now
+    ensures keys { Reads result (keys_of build.now probe.now
         (map (λ name. name.now) build_names.now) (map (λ name. name.now) probe_names.now)) }
     ensures fit { IfOk result
-        (λ read. IfOk read (λ keys. AreKeys build.now probe.now
-        (map (λ name. name.now) build_names.now) keys)) }
+        (AreKeys build.now probe.now (map (λ name. name.now) build_names.now)) }
 {
-    let Some(build_keys) = find_columns(alloc, build, build_names)? else {
-        return Ok(Err(FlowWhy::Column));
-    };
-    let Some(probe_keys) = find_columns(alloc, probe, probe_names)? else {
-        return Ok(Err(FlowWhy::Column));
-    };
-    if !are_same(build, build_keys.as_slice(), probe, probe_keys.as_slice()) {
-        return Ok(Err(FlowWhy::Mismatch));
+    let build_keys = find_columns(alloc, build, build_names)?;
+    let probe_keys = find_columns(alloc, probe, probe_names)?;
+    if !are_same(build, build_keys.get(), probe, probe_keys.get()) {
+        return Err(ReadErr::Bad(FlowWhy::Mismatch));
     }
-    Ok(Ok(JoinKeys {
-        build: Cols::new(build_keys),
-        probe: Cols::new(probe_keys),
-    }))
+    Ok(JoinKeys {
+        build: build_keys,
+        probe: probe_keys,
+    })
 }
 
 /// The columns of the probe side, and then those of the build side.
@@ -117,22 +113,19 @@ fn read_over(
     probe: u32,
     build_names: &[&str],
     probe_names: &[&str],
-) -> Result<Result<Parts, FlowWhy>, AllocError>
+) -> Result<Parts, ReadErr>
     requires narrow { All IsNarrow before.now }
     requires build { IsEarlier before.now build }
     requires probe { IsEarlier before.now probe }
     requires some { 0 < length build_names.now }
-    ensures { IfOk result (IsMeant before.now (join_over before.now build probe
-        (map (λ name. name.now) build_names.now) (map (λ name. name.now) probe_names.now))) }
+    ensures { IsMeant before.now (join_over before.now build probe
+        (map (λ name. name.now) build_names.now) (map (λ name. name.now) probe_names.now)) result }
 {
     let built = schema_at(before, build).get();
     let probed = schema_at(before, probe).get();
-    let keys = match read_keys(alloc, built, probed, build_names, probe_names)? {
-        Ok(keys) => keys,
-        Err(why) => return Ok(Err(why)),
-    };
+    let keys = read_keys(alloc, built, probed, build_names, probe_names)?;
     let schema = join_columns(alloc, probed, built)?;
-    Ok(Ok(Parts {
+    Ok(Parts {
         what: What::Join {
             build,
             probe,
@@ -140,42 +133,26 @@ fn read_over(
             probe_keys: keys.probe,
         },
         schema,
-    }))
+    })
 }
 
 /// What a join does.
 #[tactic(auto, unfolding(crate::specs::Joins::join_of))]
-pub fn read_join(
-    alloc: Global,
-    before: &[Operator],
-    tree: &Value,
-) -> Result<Result<Parts, FlowWhy>, AllocError>
+pub fn read_join(alloc: Global, before: &[Operator], tree: &Value) -> Result<Parts, ReadErr>
     requires few { length before.now < 32 }
     requires narrow { All IsNarrow before.now }
-    ensures { IfOk result (IsMeant before.now (join_of before.now (view tree.now))) }
+    ensures { IsMeant before.now (join_of before.now (view tree.now)) result }
 {
-    let Some(build_id) = text_field(tree, "build") else {
-        return Ok(Err(FlowWhy::Shape));
-    };
-    let Some(probe_id) = text_field(tree, "probe") else {
-        return Ok(Err(FlowWhy::Shape));
-    };
-    let Some(build_names) = texts_field(alloc, tree, "build_keys")? else {
-        return Ok(Err(FlowWhy::Shape));
-    };
-    let Some(probe_names) = texts_field(alloc, tree, "probe_keys")? else {
-        return Ok(Err(FlowWhy::Shape));
-    };
+    let build_id = text_field(tree, "build")?;
+    let probe_id = text_field(tree, "probe")?;
+    let build_names = texts_field(alloc, tree, "build_keys")?;
+    let probe_names = texts_field(alloc, tree, "probe_keys")?;
     let build_names = build_names.as_slice();
     let probe_names = probe_names.as_slice();
     if !may_be_keys(build_names, probe_names) {
-        return Ok(Err(FlowWhy::Shape));
+        return Err(ReadErr::Bad(FlowWhy::Shape));
     }
-    let Some(build) = find_operator(before, build_id) else {
-        return Ok(Err(FlowWhy::Forward));
-    };
-    let Some(probe) = find_operator(before, probe_id) else {
-        return Ok(Err(FlowWhy::Forward));
-    };
+    let build = find_input(before, build_id)?;
+    let probe = find_input(before, probe_id)?;
     read_over(alloc, before, build, probe, build_names, probe_names)
 }

@@ -7,9 +7,10 @@ ghost use Rattle.amber_rows.specs.Kinds.{is_sink, IsKind};
 ghost use Rattle.amber_flow.specs.Inputs.{IsNarrow};
 ghost use Rattle.amber_flow.specs.Operators.{check_columns, parts_of};
 ghost use Rattle.amber_flow.specs.Names.{is_sink_kind};
+ghost use Rattle.amber_flow.specs.Reads.{Reads};
 
 use crate::columns::are_all_apart;
-use crate::error::FlowWhy;
+use crate::error::{FlowWhy, ReadErr};
 use crate::filter::read_filter;
 use crate::group::read_group;
 use crate::join::read_join;
@@ -19,7 +20,7 @@ use crate::scan::read_scan;
 use crate::sink::read_sink;
 use amber_rows::{Operator, Schema, What};
 use serde_json::Value;
-use std::alloc::{AllocError, Global};
+use std::alloc::Global;
 
 /// What an operator does, and the columns that it gives.
 #[derive(Drop)]
@@ -34,14 +35,12 @@ pub fn read_parts(
     kind: Kind,
     before: &[Operator],
     tree: &Value,
-) -> Result<Result<Parts, FlowWhy>, AllocError>
+) -> Result<Parts, ReadErr>
     requires few { length before.now < 32 }
     requires narrow { All IsNarrow before.now }
-    ensures parts { IfOk result (λ read. read ≡ parts_of kind before.now (view tree.now)) }
-    ensures kind { IfOk result
-        (λ read. IfOk read (λ parts. IsKind before.now parts.what parts.schema)) }
-    ensures sink { IfOk result
-        (λ read. IfOk read (λ parts. is_sink parts.what ≡ is_sink_kind kind)) }
+    ensures parts { Reads result (parts_of kind before.now (view tree.now)) }
+    ensures kind { IfOk result (λ parts. IsKind before.now parts.what parts.schema) }
+    ensures sink { IfOk result (λ parts. is_sink parts.what ≡ is_sink_kind kind) }
 {
     match kind {
         Kind::Scan => read_scan(alloc, tree),

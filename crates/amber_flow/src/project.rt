@@ -1,6 +1,6 @@
 //! Reads a projection. Rests on `inputs` and `columns`.
 
-ghost use Rattle.std.specs.Prelude.{◌≡◌, ◌<◌, ◌≤◌, All, IfOk, false, length, map, option_map, true};
+ghost use Rattle.std.specs.Prelude.{◌≡◌, ◌<◌, ◌≤◌, All, IfOk, length, map, ok_or, option_map};
 ghost use Rattle.std.specs.List.{filter_map};
 ghost use Rattle.serde_json.specs.View.{view};
 ghost use Rattle.amber_rows.specs.Chain.{each};
@@ -8,14 +8,16 @@ ghost use Rattle.amber_flow.specs.Columns.{renaming_of, source_of};
 ghost use Rattle.amber_flow.specs.Inputs.{IsNarrow};
 ghost use Rattle.amber_flow.specs.Operators.{project_of};
 ghost use Rattle.amber_flow.specs.Parts.{IsMeant};
+ghost use Rattle.amber_flow.specs.Reads.{ReadsAs};
+ghost use Rattle.amber_flow.specs.declared.error.FlowWhy.TheVariants.{Shape};
 
 use crate::columns::{column_with, find_columns};
-use crate::error::FlowWhy;
+use crate::error::{FlowWhy, ReadErr};
 use crate::fields::{list_field, text_field, text_item};
-use crate::inputs::{find_operator, schema_at};
+use crate::inputs::{find_input, schema_at};
 use crate::names::may_name_column;
 use crate::parts::Parts;
-use amber_rows::{Cols, Column, Operator, Schema, Text, What};
+use amber_rows::{Column, Operator, Schema, Text, What};
 use serde_json::Value;
 use std::alloc::{AllocError, Global};
 
@@ -29,20 +31,16 @@ fn source(pair: &Value) -> Option<&str>
     }
 }
 
-/// The names of the columns that pairs rename, if each value is such a pair.
-fn read_sources(alloc: Global, pairs: &[Value]) -> Result<Option<Vec<&str>>, AllocError>
-    ensures { IfOk result
-        (λ read. option_map (λ names. map (λ name. name.now) names.items) read
-        ≡ each source_of (map view pairs.now)) }
+/// The names of the columns that pairs rename, where each value is such a pair.
+fn read_sources(alloc: Global, pairs: &[Value]) -> Result<Vec<&str>, ReadErr>
+    ensures { ReadsAs (λ names. map (λ name. name.now) names.items) result
+        (ok_or (each source_of (map view pairs.now)) Shape) }
 {
     let mut names = Vec::new(alloc);
     for pair in pairs {
-        match source(pair) {
-            Some(name) => names.push(name)?,
-            None => return Ok(None),
-        }
+        names.push(source(pair).ok_or(FlowWhy::Shape)?)?;
     }
-    Ok(Some(names))
+    Ok(names)
 }
 
 /// The column that a pair renames, under its new name.
@@ -82,38 +80,20 @@ fn rename_all(alloc: Global, columns: &[Column], pairs: &[Value]) -> Result<Vec<
 
 /// What a projection does.
 #[tactic(auto, unfolding(crate::specs::Operators::project_of))]
-pub fn read_project(
-    alloc: Global,
-    before: &[Operator],
-    tree: &Value,
-) -> Result<Result<Parts, FlowWhy>, AllocError>
+pub fn read_project(alloc: Global, before: &[Operator], tree: &Value) -> Result<Parts, ReadErr>
     requires few { length before.now < 32 }
     requires narrow { All IsNarrow before.now }
-    ensures { IfOk result (IsMeant before.now (project_of before.now (view tree.now))) }
+    ensures { IsMeant before.now (project_of before.now (view tree.now)) result }
 {
-    let Some(id) = text_field(tree, "input") else {
-        return Ok(Err(FlowWhy::Shape));
-    };
-    let Some(pairs) = list_field(tree, "columns") else {
-        return Ok(Err(FlowWhy::Shape));
-    };
-    let pairs = pairs.as_slice();
-    let Some(sources) = read_sources(alloc, pairs)? else {
-        return Ok(Err(FlowWhy::Shape));
-    };
-    let Some(input) = find_operator(before, id) else {
-        return Ok(Err(FlowWhy::Forward));
-    };
+    let id = text_field(tree, "input")?;
+    let pairs = list_field(tree, "columns")?;
+    let sources = read_sources(alloc, pairs)?;
+    let input = find_input(before, id)?;
     let columns = schema_at(before, input).get();
-    let Some(from) = find_columns(alloc, columns, sources.as_slice())? else {
-        return Ok(Err(FlowWhy::Column));
-    };
+    let from = find_columns(alloc, columns, sources.as_slice())?;
     let schema = rename_all(alloc, columns, pairs)?;
-    Ok(Ok(Parts {
-        what: What::Project {
-            input,
-            from: Cols::new(from),
-        },
+    Ok(Parts {
+        what: What::Project { input, from },
         schema: Schema::new(schema),
-    }))
+    })
 }

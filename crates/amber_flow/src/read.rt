@@ -3,7 +3,7 @@
 ghost use Rattle.std.specs.Prelude.{◌≡◌, ◌==◌, ◌<◌, ◌≤◌, ◌⊎◌, [], true, length, map, MatchResult, IfOk, Ok, Err};
 ghost use Rattle.serde_json.specs.View.{view};
 ghost use Rattle.amber_rows.specs.FlowRules.{AreNext, ends_in_sink};
-ghost use Rattle.amber_flow.specs.Answers.{AnswersFlow, AnswersTree};
+ghost use Rattle.amber_flow.specs.Answers.{AnswersFlow, AnswersTree, RefusesAt};
 ghost use Rattle.amber_flow.specs.Workflow.{check_whole, flow_of, is_flow_length, operators_from, tree_of, workflow_of};
 
 use crate::error::{Fault, FlowErr, FlowWhy};
@@ -12,7 +12,7 @@ use crate::operator::read_operator;
 use crate::readers::{count_workers, find_unread};
 use amber_rows::{Flow, Operator};
 use serde_json::{Category, Value};
-use std::alloc::{AllocError, Global};
+use std::alloc::Global;
 
 /// The JSON value of a text.
 fn read_tree(alloc: Global, bytes: &[u8]) -> Result<Value, FlowErr>
@@ -31,32 +31,28 @@ fn read_tree(alloc: Global, bytes: &[u8]) -> Result<Value, FlowErr>
 }
 
 /// The operators that a list means.
-fn read_operators(
-    alloc: Global,
-    trees: &[Value],
-) -> Result<Result<Vec<Operator>, Fault>, AllocError>
+fn read_operators(alloc: Global, trees: &[Value]) -> Result<Vec<Operator>, FlowErr>
     requires { length trees.now ≤ 32 }
-    ensures operators { IfOk result (λ read. MatchResult read
+    ensures operators { MatchResult result
         (λ operators. operators_from (length trees.now) [] (map view trees.now)
         ≡ Ok operators.items)
-        (λ fault. operators_from (length trees.now) [] (map view trees.now) ≡ Err fault)) }
-    ensures count { IfOk result
-        (λ read. IfOk read (λ operators. length operators.items ≡ length trees.now)) }
-    ensures next { IfOk result (λ read. IfOk read (λ operators. AreNext [] operators.items)) }
-    ensures ends { IfOk result
-        (λ read. IfOk read (λ operators. 0 < length trees.now → ends_in_sink operators.items
-        ≡ true)) }
+        (λ failure. RefusesAt failure
+        (operators_from (length trees.now) [] (map view trees.now))) }
+    ensures count { IfOk result (λ operators. length operators.items ≡ length trees.now) }
+    ensures next { IfOk result (λ operators. AreNext [] operators.items) }
+    ensures ends { IfOk result (λ operators. 0 < length trees.now
+        → ends_in_sink operators.items ≡ true) }
 {
     let mut operators = Vec::new(alloc);
     for tree in trees {
         let before = operators.as_slice();
         let op = before.len() as u32 + 1;
-        match read_operator(alloc, trees.len(), before, tree)? {
+        match read_operator(alloc, trees.len(), before, tree) {
             Ok(operator) => operators.push(operator)?,
-            Err(why) => return Ok(Err(Fault { op, why })),
+            Err(failure) => return Err(failure.at(op)),
         }
     }
-    Ok(Ok(operators))
+    Ok(operators)
 }
 
 /// The workflow of these operators, where they have few enough workers and each is read as it must be.
@@ -93,26 +89,21 @@ fn may_be_flow(count: usize) -> bool
 
 /// The workflow that a JSON value means, or its first reason and the operator at fault.
 #[tactic(auto, unfolding(crate::specs::Workflow::flow_of))]
-fn read_whole(alloc: Global, tree: &Value) -> Result<Result<Flow, Fault>, AllocError>
-    ensures { IfOk result (λ read. read ≡ flow_of (view tree.now)) }
+fn read_whole(alloc: Global, tree: &Value) -> Result<Flow, FlowErr>
+    ensures { AnswersFlow result (flow_of (view tree.now)) }
 {
-    let Some(trees) = list_field(tree, "operators") else {
-        return Ok(Err(Fault {
-            op: 0,
-            why: FlowWhy::Shape,
-        }));
+    let trees = match list_field(tree, "operators") {
+        Ok(trees) => trees,
+        Err(why) => return Err(FlowErr::Bad { op: 0, why }),
     };
-    let trees = trees.as_slice();
     if !may_be_flow(trees.len()) {
-        return Ok(Err(Fault {
+        return Err(FlowErr::Bad {
             op: 0,
             why: FlowWhy::Count,
-        }));
+        });
     }
-    match read_operators(alloc, trees)? {
-        Ok(operators) => Ok(make_flow(operators)),
-        Err(fault) => Ok(Err(fault)),
-    }
+    let operators = read_operators(alloc, trees)?;
+    Ok(make_flow(operators)?)
 }
 
 /// Reads a workflow from JSON: an object with a list `operators`. The definition `workflow_of` in `specs/`
@@ -122,9 +113,5 @@ pub fn read_flow(alloc: Global, bytes: &[u8]) -> Result<Flow, FlowErr>
     ensures answer { AnswersFlow result (workflow_of bytes.now) }
 {
     let tree = read_tree(alloc, bytes)?;
-    match read_whole(alloc, &tree) {
-        Ok(Ok(flow)) => Ok(flow),
-        Ok(Err(Fault { op, why })) => Err(FlowErr::Bad { op, why }),
-        Err(_) => Err(FlowErr::NoMemory),
-    }
+    read_whole(alloc, &tree)
 }

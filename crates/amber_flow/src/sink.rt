@@ -5,38 +5,30 @@ ghost use Rattle.serde_json.specs.View.{view};
 ghost use Rattle.amber_rows.specs.Kinds.{is_sink, IsKind};
 ghost use Rattle.amber_flow.specs.Inputs.{IsNarrow};
 ghost use Rattle.amber_flow.specs.Operators.{sink_of};
+ghost use Rattle.amber_flow.specs.Reads.{Reads};
 
-use crate::error::FlowWhy;
+use crate::error::ReadErr;
 use crate::fields::text_field;
-use crate::inputs::{find_operator, schema_at};
+use crate::inputs::{find_input, schema_at};
 use crate::parts::Parts;
 use amber_rows::{Operator, What};
 use serde_json::Value;
-use std::alloc::{AllocError, Global};
+use std::alloc::Global;
 
 /// What a sink does.
 #[tactic(auto, unfolding(crate::specs::Operators::sink_of))]
-pub fn read_sink(
-    alloc: Global,
-    before: &[Operator],
-    tree: &Value,
-) -> Result<Result<Parts, FlowWhy>, AllocError>
+pub fn read_sink(alloc: Global, before: &[Operator], tree: &Value) -> Result<Parts, ReadErr>
     requires few { length before.now < 32 }
     requires narrow { All IsNarrow before.now }
-    ensures parts { IfOk result (λ read. read ≡ sink_of before.now (view tree.now)) }
-    ensures kind { IfOk result
-        (λ read. IfOk read (λ parts. IsKind before.now parts.what parts.schema)) }
-    ensures sink { IfOk result (λ read. IfOk read (λ parts. is_sink parts.what ≡ true)) }
+    ensures parts { Reads result (sink_of before.now (view tree.now)) }
+    ensures kind { IfOk result (λ parts. IsKind before.now parts.what parts.schema) }
+    ensures sink { IfOk result (λ parts. is_sink parts.what ≡ true) }
 {
-    let Some(id) = text_field(tree, "input") else {
-        return Ok(Err(FlowWhy::Shape));
-    };
-    let Some(input) = find_operator(before, id) else {
-        return Ok(Err(FlowWhy::Forward));
-    };
+    let id = text_field(tree, "input")?;
+    let input = find_input(before, id)?;
     let schema = schema_at(before, input).clone()?;
-    Ok(Ok(Parts {
+    Ok(Parts {
         what: What::Sink { input },
         schema,
-    }))
+    })
 }

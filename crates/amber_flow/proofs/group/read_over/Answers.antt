@@ -4,42 +4,38 @@ use Rattle.amber_rows.specs.Columns.{agg_kind}
 use Rattle.amber_rows.specs.declared.agg.Agg.{Agg}
 use Rattle.amber_flow.specs.Groups.{group_over}
 use Rattle.amber_flow.proofs.GroupFacts.{group-kind}
+use Rattle.amber_flow.proofs.ReadFacts.{handed_on, ok_or-some}
 use Rattle.amber_flow.proofs.group.read_over.Goals as goal
 
-pub returns-in_default-clause-parts : goal.returns-in_default-clause-parts
+pub returns-in_err-keys-clause-parts : goal.returns-in_err-keys-clause-parts
 unfolding group_over
-returns-in_default-clause-parts c =
-    let keys = rw c.in_default.is at c.in_ok-keys.ensures in
-    rw (← keys) refl
+returns-in_err-keys-clause-parts c =
+    handed_on c.from_residual.result c.in_err-keys.field-0.0 _ _ c.from_residual.ensures.1 c.in_err-keys.ensures (λ why is. rw (← is))
 
-pub returns-in_default-2-clause-parts : goal.returns-in_default-2-clause-parts
+pub returns-in_err-aggs-clause-parts : goal.returns-in_err-aggs-clause-parts
 unfolding group_over
-returns-in_default-2-clause-parts c =
-    let keys = rw c.in-Some.is at c.in_ok-keys.ensures in
-    let aggs = rw c.in_default-2.is at c.in_ok-aggs.ensures in
-    rw (← keys, ← aggs) refl
+returns-in_err-aggs-clause-parts c =
+    rw (← c.in_ok-keys.ensures)
+    (handed_on c.from_residual-in_err-aggs.result c.in_err-aggs.field-0.0 _ _ c.from_residual-in_err-aggs.ensures.1 c.in_err-aggs.ensures (λ why is. rw (← is)))
 
 pub returns-then-not-are_summable-clause-parts : goal.returns-then-not-are_summable-clause-parts
 unfolding group_over
 returns-then-not-are_summable-clause-parts c =
-    let keys = rw c.in-Some.is at c.in_ok-keys.ensures in
-    let aggs = rw c.in-Some-2.is at c.in_ok-aggs.ensures in
-    let summed = rw c.as_slice.ensures.value at c.if-not-are_summable.ensures in
-    rw (← keys, ← aggs, ← summed) refl
+    let summed = rw c.get.ensures at c.if-not-are_summable.ensures in
+    rw (← c.in_ok-keys.ensures, ← c.in_ok-aggs.ensures, ← summed) refl
 
 pub returns-clause-parts : goal.returns-clause-parts
 unfolding group_over
 returns-clause-parts c =
-    let keys = rw c.in-Some.is at c.in_ok-keys.ensures in
-    let aggs = rw c.in-Some-2.is at c.in_ok-aggs.ensures in
-    let summed = rw c.as_slice.ensures.value at c.if-not-are_summable.ensures in
-    rw (← keys, ← aggs, ← summed, c.new.ensures, c.new-2.ensures, c.in_ok-schema.ensures) refl
+    let summed = rw c.get.ensures at c.if-not-are_summable.ensures in
+    rw (← c.in_ok-keys.ensures, ← c.in_ok-aggs.ensures, ← summed, c.in_ok-schema.ensures) refl
 
 pub returns-clause-kind : goal.returns-clause-kind
 returns-clause-kind c =
     let now = λ (name : Bor (List ℕ)). name.now in
     let columns = c.args.columns.now in
-    let keys = rw c.in-Some.is at c.in_ok-keys.ensures in
-    let aggs = rw c.in-Some-2.is at c.in_ok-aggs.ensures in
-    let summed = ap (list_all (λ (agg : Agg). is_some (agg_kind columns agg))) (sym c.as_slice.ensures.value) ∙ sym c.if-not-are_summable.ensures in
-    λ before earlier has. group-kind before c.args.input columns (map now c.args.names.now) (map now c.args.texts.now) c.in-Some.keys.items c.new.result c.in-Some-2.aggs.items c.new-2.result c.in_ok-schema.schema earlier has (sym keys) (sym aggs) summed c.new.ensures c.new-2.ensures c.in_ok-schema.ensures
+    let keys = c.in_ok-keys.keys in
+    let aggs = c.in_ok-aggs.aggs in
+    let summed = ap (list_all (λ (agg : Agg). is_some (agg_kind columns agg))) (sym c.get.ensures) ∙ sym c.if-not-are_summable.ensures in
+    λ before earlier has. group-kind before c.args.input columns (map now c.args.names.now) (map now c.args.texts.now) keys keys aggs aggs c.in_ok-schema.schema earlier has
+    (ok_or-some _ _ _ c.in_ok-keys.ensures) (ok_or-some _ _ _ c.in_ok-aggs.ensures) summed refl refl c.in_ok-schema.ensures

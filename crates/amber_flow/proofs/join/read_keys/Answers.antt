@@ -1,67 +1,50 @@
 -- The keys that were meant, step by step.
 use Rattle.std.proofs.Common.{List, ℕ, Bor, map, refl, sym, ap}
-use Rattle.std.proofs.lemmas.Result.{IfOk-from_err}
 use Rattle.std.specs.List.{filter_map}
 use Rattle.amber_rows.specs.Columns.{column_kind_at}
 use Rattle.amber_flow.specs.Joins.{keys_of}
 use Rattle.amber_flow.proofs.JoinFacts.{are-keys, found-kinds}
+use Rattle.amber_flow.proofs.ReadFacts.{handed_on, ok_or-some}
 use Rattle.amber_flow.proofs.join.read_keys.Goals as goal
 
 pub are_same-requires-clause-build : goal.are_same-requires-clause-build
 are_same-requires-clause-build c =
     let now = λ (name : Bor (List ℕ)). name.now in
-    let build = rw c.in-Some.is at c.in_ok-build_keys.ensures in
-    rw c.as_slice.ensures.value (found-kinds c.args.build.now (map now c.args.build_names.now) c.in-Some.build_keys.items (sym build))
+    rw c.get.ensures (found-kinds c.args.build.now (map now c.args.build_names.now) c.in_ok-build_keys.build_keys (ok_or-some _ _ _ c.in_ok-build_keys.ensures))
 
 pub are_same-requires-clause-probe : goal.are_same-requires-clause-probe
 are_same-requires-clause-probe c =
     let now = λ (name : Bor (List ℕ)). name.now in
-    let probe = rw c.in-Some-2.is at c.in_ok-probe_keys.ensures in
-    rw c.as_slice-2.ensures.value (found-kinds c.args.probe.now (map now c.args.probe_names.now) c.in-Some-2.probe_keys.items (sym probe))
+    rw c.get-2.ensures (found-kinds c.args.probe.now (map now c.args.probe_names.now) c.in_ok-probe_keys.probe_keys (ok_or-some _ _ _ c.in_ok-probe_keys.ensures))
 
 pub returns-clause-fit : goal.returns-clause-fit
 returns-clause-fit c =
     let now = λ (name : Bor (List ℕ)). name.now in
-    let build = rw c.in-Some.is at c.in_ok-build_keys.ensures in
-    let probe = rw c.in-Some-2.is at c.in_ok-probe_keys.ensures in
-    are-keys c.args.build.now c.args.probe.now (map now c.args.build_names.now) (map now c.args.probe_names.now) c.in-Some.build_keys.items c.in-Some-2.probe_keys.items
-    (filter_map (column_kind_at c.args.build.now) c.as_slice.result.now) (filter_map (column_kind_at c.args.probe.now) c.as_slice-2.result.now) (sym build) (sym probe)
-    (ap (filter_map (column_kind_at c.args.build.now)) c.as_slice.ensures.value) (ap (filter_map (column_kind_at c.args.probe.now)) c.as_slice-2.ensures.value)
-    (sym c.if-not-are_same.ensures) (record { build = c.new.result; probe = c.new-2.result }) c.new.ensures c.new-2.ensures
+    are-keys c.args.build.now c.args.probe.now (map now c.args.build_names.now) (map now c.args.probe_names.now) c.in_ok-build_keys.build_keys c.in_ok-probe_keys.probe_keys
+    (filter_map (column_kind_at c.args.build.now) c.get.result.now) (filter_map (column_kind_at c.args.probe.now) c.get-2.result.now)
+    (ok_or-some _ _ _ c.in_ok-build_keys.ensures) (ok_or-some _ _ _ c.in_ok-probe_keys.ensures)
+    (ap (filter_map (column_kind_at c.args.build.now)) c.get.ensures) (ap (filter_map (column_kind_at c.args.probe.now)) c.get-2.ensures)
+    (sym c.if-not-are_same.ensures) (record { build = c.in_ok-build_keys.build_keys; probe = c.in_ok-probe_keys.probe_keys }) refl refl
 
 pub returns-clause-keys : goal.returns-clause-keys
 unfolding keys_of
 returns-clause-keys c =
-    let build = rw c.in-Some.is at c.in_ok-build_keys.ensures in
-    let probe = rw c.in-Some-2.is at c.in_ok-probe_keys.ensures in
-    let alike = rw (c.as_slice.ensures.value, c.as_slice-2.ensures.value) at c.if-not-are_same.ensures in
-    rw (← build, ← probe, ← alike, c.new.ensures, c.new-2.ensures) refl
+    let alike = rw (c.get.ensures, c.get-2.ensures) at c.if-not-are_same.ensures in
+    rw (← c.in_ok-build_keys.ensures, ← c.in_ok-probe_keys.ensures, ← alike) refl
 
-pub returns-in_default : goal.returns-in_default
+pub returns-in_err-build_keys-clause-keys : goal.returns-in_err-build_keys-clause-keys
 unfolding keys_of
-returns-in_default c =
-    let build = rw c.in_default.is at c.in_ok-build_keys.ensures in
-    record { keys = rw (← build) refl; fit = tt }
+returns-in_err-build_keys-clause-keys c =
+    handed_on c.from_residual.result c.in_err-build_keys.field-0.0 _ _ c.from_residual.ensures.1 c.in_err-build_keys.ensures (λ why is. rw (← is))
 
-pub returns-in_default-2 : goal.returns-in_default-2
+pub returns-in_err-probe_keys-clause-keys : goal.returns-in_err-probe_keys-clause-keys
 unfolding keys_of
-returns-in_default-2 c =
-    let build = rw c.in-Some.is at c.in_ok-build_keys.ensures in
-    let probe = rw c.in_default-2.is at c.in_ok-probe_keys.ensures in
-    record { keys = rw (← build, ← probe) refl; fit = tt }
+returns-in_err-probe_keys-clause-keys c =
+    rw (← c.in_ok-build_keys.ensures)
+    (handed_on c.from_residual-in_err-probe_keys.result c.in_err-probe_keys.field-0.0 _ _ c.from_residual-in_err-probe_keys.ensures.1 c.in_err-probe_keys.ensures (λ why is. rw (← is)))
 
-pub returns-then-not-are_same : goal.returns-then-not-are_same
+pub returns-then-not-are_same-clause-keys : goal.returns-then-not-are_same-clause-keys
 unfolding keys_of
-returns-then-not-are_same c =
-    let build = rw c.in-Some.is at c.in_ok-build_keys.ensures in
-    let probe = rw c.in-Some-2.is at c.in_ok-probe_keys.ensures in
-    let alike = rw (c.as_slice.ensures.value, c.as_slice-2.ensures.value) at c.if-not-are_same.ensures in
-    record { keys = rw (← build, ← probe, ← alike) refl; fit = tt }
-
-pub returns-in_err-build_keys : goal.returns-in_err-build_keys
-returns-in_err-build_keys c = record { keys = IfOk-from_err _ _ c.from_residual.ensures.0; fit = IfOk-from_err _ _ c.from_residual.ensures.0 }
-
-pub returns-in_err-probe_keys : goal.returns-in_err-probe_keys
-returns-in_err-probe_keys c =
-    let failed = c.from_residual-in_err-probe_keys.ensures.0 in
-    record { keys = IfOk-from_err _ _ failed; fit = IfOk-from_err _ _ failed }
+returns-then-not-are_same-clause-keys c =
+    let alike = rw (c.get.ensures, c.get-2.ensures) at c.if-not-are_same.ensures in
+    rw (← c.in_ok-build_keys.ensures, ← c.in_ok-probe_keys.ensures, ← alike) refl

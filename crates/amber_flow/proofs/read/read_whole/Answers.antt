@@ -1,18 +1,26 @@
-use Rattle.std.proofs.Common.{Ok, Err, ◌∙◌}
-use Rattle.amber_flow.proofs.FlowFacts.{flow-count, flow-read}
-use Rattle.amber_flow.proofs.read.read_whole.Goals as goal
+use Rattle.std.proofs.Common.{Ok, Err, sym, ◌∙◌}
 use Rattle.serde_json.specs.View.{view}
-
-pub returns-then-not-may_be_flow : goal.returns-then-not-may_be_flow
-returns-then-not-may_be_flow c =
-    flow-count (view c.args.tree.now) c.in-Some.trees.now.items c.as_slice-trees.result.now c.as_slice-trees.ensures.value c.in-Some.ensures c.if-not-may_be_flow.ensures
-
-pub returns-in-Ok : goal.returns-in-Ok
-returns-in-Ok c =
-    let read = rw c.in-Ok.is at c.in_ok-operators.ensures.operators in
-    c.make_flow.ensures.checked ∙ flow-read (view c.args.tree.now) c.in-Some.trees.now.items c.as_slice-trees.result.now (Ok c.in-Ok.operators.items) c.as_slice-trees.ensures.value c.in-Some.ensures c.if-not-may_be_flow.ensures read
+use Rattle.amber_flow.proofs.FlowFacts.{flow-count, flow-read, flow-shape, whole-refused, whole-handed_on}
+use Rattle.amber_flow.proofs.read.read_whole.Goals as goal
 
 pub returns-in-Err : goal.returns-in-Err
-returns-in-Err c =
-    let read = rw c.in-Err.is at c.in_ok-operators.ensures.operators in
-    flow-read (view c.args.tree.now) c.in-Some.trees.now.items c.as_slice-trees.result.now (Err c.in-Err.fault) c.as_slice-trees.ensures.value c.in-Some.ensures c.if-not-may_be_flow.ensures read
+returns-in-Err c = flow-shape (view c.args.tree.now) c.in-Err.why c.in-Err.ensures
+
+pub returns-then-not-may_be_flow : goal.returns-then-not-may_be_flow
+returns-then-not-may_be_flow c = flow-count (view c.args.tree.now) c.in-Ok.trees.now c.in-Ok.ensures c.if-not-may_be_flow.ensures
+
+pub returns : goal.returns
+returns c =
+    sym (flow-read (view c.args.tree.now) c.in-Ok.trees.now (Ok c.in_ok-operators.operators.items) c.in-Ok.ensures c.if-not-may_be_flow.ensures c.in_ok-operators.ensures.operators)
+    ∙ sym c.in_ok-make_flow.ensures.checked
+
+pub returns-in_err-operators : goal.returns-in_err-operators
+returns-in_err-operators c =
+    whole-handed_on c.from_residual.result c.in_err-operators.field-0.0 _ _ c.from_residual.ensures.1 c.in_err-operators.ensures.operators
+    (λ fault is. sym (flow-read (view c.args.tree.now) c.in-Ok.trees.now (Err fault) c.in-Ok.ensures c.if-not-may_be_flow.ensures is))
+
+pub returns-in_err-make_flow : goal.returns-in_err-make_flow
+returns-in_err-make_flow c =
+    whole-refused c.from_residual-in_err-make_flow.result c.in_err-make_flow.field-0.0 _ c.from_residual-in_err-make_flow.ensures.1
+    (sym (flow-read (view c.args.tree.now) c.in-Ok.trees.now (Ok c.in_ok-operators.operators.items) c.in-Ok.ensures c.if-not-may_be_flow.ensures c.in_ok-operators.ensures.operators)
+    ∙ sym c.in_err-make_flow.ensures.checked)
