@@ -26,6 +26,19 @@
 //!
 //! # Example
 //!
+//! Three units, all in the hand of the second of two workers, who counts one and gives the others back:
+//!
+//! ```rust
+//! let (board, mut chief, mut seats) = Board::for_one(alloc, 3, 2, 1)?;
+//! seats[1].count(&board);
+//! seats[1].give_back(&board);
+//! chief.draw(&board);
+//! assert_eq!(rt; chief.hand(), 2);
+//! chief.put_back(&board);
+//! let totals = close(board, chief, seats);
+//! assert!(rt; totals.unassigned == 2 && totals.counted == 1);
+//! ```
+//!
 //! Five units for two workers, in the order in which the steps are made:
 //!
 //! | Step | Unassigned | Allotments | Counts | Chief's hand | Workers' hands |

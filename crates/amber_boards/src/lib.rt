@@ -5,9 +5,21 @@
 //! needs one; and disarms the workers and closes the boards. A closed board has had no more units counted than it had, so
 //! no count passes its target.
 //!
-//! For instance, where a filter has emitted 3 rows since a count of 5 was put, `arm` makes a board with 2 units. Its worker
-//! needs a unit for its next row: `hand_out` grants it both. If it emits one row more, `disarm` journals the unit that is
-//! left as given back.
+//! # Example
+//!
+//! A count of 5 rows was put at a filter, operator 2, whose one worker has the number 1. It has emitted 3 rows since,
+//! and its next row is pending; operator 1 has finished:
+//!
+//! ```rust
+//! let counts = [None, Some(Target { target: 5, since: 0 }), None];
+//! boards.arm(&counts, &mut dataflow)?;
+//! boards.hand_out(&mut dataflow, 1)?;
+//! dataflow.step(1, boards.board_at(2))?;
+//! boards.disarm(&mut dataflow);
+//! ```
+//!
+//! Then `arm` has made a board with 2 units, `hand_out` has granted both to the worker, and in the step it emitted the
+//! row with one of them. `disarm` has journaled the other as given back, and no board is left.
 #![tactic(auto)]
 
 pub mod boards;

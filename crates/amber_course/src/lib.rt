@@ -4,6 +4,24 @@
 //! The definition `course_of` in `specs/Course.antt` says which refusal comes first, or which job is to be done, from the words
 //! and the files alone; `session_course_of` in `specs/SessionCourse.antt` says so of a session, whose commands come later. Nothing
 //! here runs a job or writes a file.
+//!
+//! # Example
+//!
+//! The words of a session are read, and its files are loaded. The folder has a workflow, `w.json`, and the file of its
+//! one scan:
+//!
+//! ```rust
+//! let mut outside = FolderAndSink::new(&mut folder, &mut out);
+//! let words = read_session_words(alloc, words)?;
+//! match prepare_session(alloc, words, &mut outside) {
+//!     Ok(job) => println!(rt; "{} on {} by {}", job.log.get(), job.threads, job.batch_size)?,
+//!     Err(failure) => return Ok(refuse(&mut outside, &failure)),
+//! }
+//! ```
+//!
+//! With the words `w.json`, `log`, `4` and `64` it prints `log on 4 by 64`. With `v.json` for `w.json`, which is not
+//! there, `refuse` puts the line `error 4 read v.json` into `out` and answers `Status::ReadFault`. With `65` for `4`
+//! the words are refused: `Failure::Usage`.
 #![tactic(auto)]
 
 pub mod failure;

@@ -20,14 +20,24 @@
 //! ends at a line feed, at a carriage return, or at both; empty lines are no records; the last line may lack its end;
 //! and a byte order mark at the front is dropped. Wherever a double quote stands, the file is not taken line by line.
 //!
-//! An example: the file `day,word\r\n\n7,\n8,a b` has the lines `day,word` and `7,` and `8,a b`, of which `Records`
-//! keeps where they begin, 0 and 11 and 14. Record 2, cut at the comma, has the fields `8` and `a b`; under a column
-//! of numbers and one of texts it is the row of 8 and `a b`. With `"a b"` for `a b` it has the same records, but is
-//! kept as the fields `day`, `word`, `7`, an empty one, `8` and `a b`, of which the records end at the second, the
-//! fourth and the sixth.
-//!
 //! `specs/Lines.antt` says what the lines of a text and the fields of a line are, `specs/Pieces.antt` what the records
 //! among the fields of a file are.
+//!
+//! # Example
+//!
+//! The columns of `schema` are one of numbers and one of texts:
+//!
+//! ```rust
+//! let bytes = Bytes::new(Vec::from_slice(alloc, b"day,word\r\n\n7,\n8,a b")?);
+//! let records = Records::new(&rt, alloc, &FileBytes::new(alloc, bytes)?, 1)?;
+//! assert_eq!(rt; records.len(), 3);
+//! let typed = records.typed(alloc, 2, Vec::new(alloc), &schema)?;
+//! ```
+//!
+//! Then `typed` is `Ok` of the row of 8 and `a b`. Of the lines `day,word`, `7,` and `8,a b` it is kept where they
+//! begin, at 0, 11 and 14; record 2 is cut at the comma. With `"a b"` for `a b` the file has the same records, but is
+//! kept as the fields `day`, `word`, `7`, an empty one, `8` and `a b`, of which the records end at the second, the
+//! fourth and the sixth.
 #![tactic(auto)]
 
 mod fields;

@@ -6,11 +6,26 @@
 //! has made is with those to whom it sends. It makes turns, one worker at a time; who makes how many and when
 //! to stop is for its caller.
 //!
-//! For instance, of a scan of five records, a filter that passes three of them and a sink, with one worker
-//! each, `turns(0, None, 1024)` makes the scan's eleven steps, and answers 11: each record is taken and emitted, and
-//! then the scan has finished. After `turns(1, None, 1024)` `rows_emitted(2)` is 3.
-//!
 //! Where memory runs out within a step the workers are dropped, and none is left.
+//!
+//! # Example
+//!
+//! A scan of five records, a filter that passes three of them and a sink, with one worker each, go to their end step by
+//! step:
+//!
+//! ```rust
+//! let mut dataflow = Dataflow::new(&rt, alloc, flow, &files, 400, 1)?;
+//! dataflow.begin(true);
+//! while !dataflow.have_all_finished() {
+//!     let worker = dataflow.first_unfinished();
+//!     dataflow.step(worker, None)?;
+//! }
+//! assert!(rt; dataflow.steps() == 26 && dataflow.rows_emitted(2) == 3);
+//! let answer = dataflow.answer(alloc)?;
+//! ```
+//!
+//! The scan makes eleven steps: each record is taken and emitted, and then it has finished. The filter makes ten: it
+//! takes a batch and its five rows, and emits three. The sink makes five, and `answer` has the three rows, sorted.
 #![tactic(auto)]
 
 mod counts;

@@ -15,6 +15,25 @@
 //! list of rows. A new state stands for no row, each row that is fed makes it stand for one more row, and
 //! what it gives is what the list functions of `amber_rows` make of the rows for which it stands. Where
 //! memory runs out, the state is as before.
+//!
+//! # Example
+//!
+//! Rows of a number and a text are grouped by the text, which is column 2; of each group they are counted and summed
+//! up:
+//!
+//! ```rust
+//! let keys = Cols::new(Vec::from_slice(alloc, &[2])?);
+//! let aggs = Aggs::new(Vec::from_slice(alloc, &[Agg::Count, Agg::Sum(1)])?);
+//! let mut state = GroupState::new(alloc, keys, aggs);
+//! for row in &rows {
+//!     state.feed(row)?;
+//! }
+//! let found = state.finish(alloc)?;
+//! ```
+//!
+//! Of the rows 5 `a`, 1 `b`, 2 `a` and 4 `b`, `found.rows` are `a` 2 7 and `b` 2 5, and `found.refused` has none. With
+//! 9223372036854775807 for 5 the sum of `a` would leave 64 bits: then `found.rows` is `b` 2 5, and `found.refused` is
+//! `a`.
 #![tactic(auto)]
 
 mod finish;

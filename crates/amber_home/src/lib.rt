@@ -8,10 +8,25 @@
 //! `settle`). Before that `feed` hands units of a count to one of its operator's workers, where it needs one and
 //! has none, and after it `resume` lets those go on that were paused.
 //!
-//! For instance, a home of a workflow of a scan of five records, a filter that passes three of them and a
-//! sink rests at first with an empty log. After `apply` of a pause of the filter after two rows, and a leg up
-//! to a stop that is opened, goes on by `home_step` until a stop stands, and is closed as cut, its log has the
-//! command and the leg, `stops` gives that pause with two rows, and the filter's pause is no longer armed.
+//! # Example
+//!
+//! A scan of the numbers 2, 1 and 3, a filter of those from 2 on, which is operator 2, and a sink are to pause once the
+//! filter has emitted a row; the leg up to that is made step by step:
+//!
+//! ```rust
+//! let mut home = Home::new(&rt, alloc, flow, files, 400, 30, 1)?;
+//! home.apply(alloc, &Command::Pause { op: 2, n: 1 })?;
+//! home.open_leg(false);
+//! home.arm_leg(alloc)?;
+//! while home.stops(alloc)?.get().is_empty() {
+//!     home.home_step()?;
+//! }
+//! home.disarm_leg();
+//! home.close_leg(alloc, Close::Cut)?;
+//! ```
+//!
+//! Then ten steps were made, seven of the scan and three of the filter. `home.log()` has the command and the leg,
+//! `stops` gives that pause with one row, and the filter's pause is no longer in force.
 #![tactic(auto)]
 
 mod applying;

@@ -3,6 +3,23 @@
 //!
 //! `MemFolder`, `MemSink` and `MemSource` keep all in memory and fail where they are told to. `RealFolder`,
 //! `RealSink` and `RealSource` stand on the runtime's files, its standard output and its standard input.
+//!
+//! # Example
+//!
+//! The folder has the file `o.csv` with the bytes `id,qty`, and `fails.loads` is the list of the one number 2:
+//!
+//! ```rust
+//! let mut folder = MemFolder::new(alloc, NamedFiles::new(files), fails);
+//! let first = folder.load(alloc, "o.csv", 2);
+//! let second = folder.load(alloc, "o.csv", 9);
+//! let third = folder.load(alloc, "o.csv", 9);
+//! folder.create("log")?;
+//! folder.append("log", b"head")?;
+//! ```
+//!
+//! Then `first` is `Ok` of `id`, the first two bytes; `second` is `Err(IoErr::Failed)`, since it is the second load;
+//! `third` is `Ok` of `id,qty`; and `folder.read("log")` is `head`. Over `RealFolder` the same calls go to the system's
+//! files.
 #![tactic(auto)]
 
 pub use error::IoErr;

@@ -11,6 +11,24 @@
 //!
 //! Inside is a hashed table from each key to the places of its rows, so a build row costs one look-up, and a probe
 //! row one look-up and its matches. No contract speaks of the table. Where memory runs out, the state is as before.
+//!
+//! # Example
+//!
+//! Rows are joined by column 1 of both sides. The build rows are 7 `x`, 8 `y`, 7 `z` and 7 `x`:
+//!
+//! ```rust
+//! let mut state = JoinState::new(alloc, build_keys, probe_keys);
+//! for row in build {
+//!     if state.build(row).is_err() {
+//!         return Err(NoMemory);
+//!     }
+//! }
+//! state.seal();
+//! let found = state.probe(alloc, &row)?;
+//! ```
+//!
+//! Where `row` is 7, `found` has three rows: 7 7 `x`, 7 7 `z` and 7 7 `x`, in the order of the build rows. Where it is
+//! 9 it has none. `state.rows()` is 4, and `state.keys()` is 2.
 #![tactic(auto)]
 
 mod matches;

@@ -7,6 +7,20 @@
 //!
 //! The lemmas in `proofs/` say how such a table follows a list of rows that grows: `FirstKeys` the keys, each where it
 //! stands first, and `Tables` what stands beside each key.
+//!
+//! # Example
+//!
+//! The key of a row is its cells in the columns 3 and 2:
+//!
+//! ```rust
+//! let columns = Cols::new(Vec::from_slice(alloc, &[3, 2])?);
+//! let mut table: KeyTable<u64> = KeyTable::new(alloc);
+//! table.add(Key::of(alloc, &first, &columns)?, 12)?;
+//! let place = table.place_of(&Key::of(alloc, &second, &columns)?);
+//! ```
+//!
+//! Where `first` is the row 7 `nut` -2 and `second` is 5 `nut` -2, both have the key -2 `nut`: `place` is `Some(0)`,
+//! and `table.entry(0)` is that key with 12. Where `second` is 7 `bolt` -2, `place` is `None`.
 #![tactic(auto)]
 
 mod key;

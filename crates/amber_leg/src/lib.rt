@@ -25,10 +25,20 @@
 //! as many as there are workers; and the steps of a leg are no more than those made at home and the
 //! turns of all workers together.
 //!
-//! For instance, `leg` to the end on four threads, at the home of a workflow of four scans, four
-//! filters and a sink, gives in the first round each driver a scan and the filter behind it, and
-//! the first one the sink as well. In the end the log has one leg more, which ends in `cut`, and
-//! all nine workers have finished.
+//! # Example
+//!
+//! A scan of the numbers 2, 1 and 3, a filter of those from 2 on and a sink go to their end on two threads:
+//!
+//! ```rust
+//! let mut home = Home::new(&rt, alloc, flow, files, 400, 1000, 1)?;
+//! leg(&rt, alloc, &mut home, true, 2, &OpenGate)?;
+//! assert_eq!(rt; home.steps(), 18);
+//! assert_eq!(rt; home.log().items.get().len(), 1);
+//! ```
+//!
+//! Then the log has one leg, which ends in `cut`, and all three workers have finished. Of four scans, four filters and
+//! a sink on four threads each driver would get in the first round a scan and the filter behind it, and the first one
+//! the sink as well.
 #![tactic(auto)]
 
 mod alternating;

@@ -16,6 +16,25 @@
 //! A worker keeps an `Upstream` of each worker that sends to it, and a `Downstream` of each to which it
 //! sends. An `Upstream` of the probe side of a join gives a batch only once the last batches of all of the
 //! build side were taken.
+//!
+//! # Example
+//!
+//! Three rows go through a link whose batches have two rows:
+//!
+//! ```rust
+//! let (mut out, mut into) = link(alloc, 2)?;
+//! out.reserve(3)?;
+//! for row in rows {
+//!     out.push_reserved(row);
+//! }
+//! out.end_reserved();
+//! assert!(rt; out.send() == Sent::All);
+//! let first = into.take();
+//! let second = into.take();
+//! ```
+//!
+//! Then `first` is the batch with the `seq` 0, which has the first two rows, and `second` that with the `seq` 1, which
+//! has the third and is the last. `CALLING.md` shows a caller.
 #![tactic(auto)]
 
 pub mod back;

@@ -4,6 +4,21 @@
 //! The definitions in `specs/` give the text of each item, the grammar of logs, and how a text is read.
 //! The laws say that no item's text begins another's, that a text that was cut off anywhere reads as a
 //! log with fewer items, and that reading fails exactly at the first line that cannot stand there.
+//!
+//! # Example
+//!
+//! A count is put at operator 2 of a workflow of a scan, a filter and a sink:
+//!
+//! ```rust
+//! let command = Command::Count { op: 2, n: 3 };
+//! assert!(rt; fits(&flow, &command));
+//! let item = Item::Do(command);
+//! assert_eq!(rt; item_length(&item), 1);
+//! ```
+//!
+//! The item is the line `do count 2 3` of a log (`item_text`). With 3 for the operator, which is the sink, or with 0
+//! rows, `fits` would answer false. A leg has more lines, as `run`, `w 0`, `g 5 5`, `f` and `cut`: `item_length` of
+//! that one is 5.
 #![tactic(auto)]
 
 pub mod command;

@@ -19,11 +19,20 @@
 //!
 //! # Example
 //!
-//! A coordinator and a worker hold the two ends that `mail_rings` made. The coordinator pushes
-//! `Claim`, and then `Pause`. The worker's first look is answered by `Claim`, its second by `Pause`
-//! and its third by nothing: three looks, of which one was a pause. It notes `Held`; the
-//! coordinator hears `Held`, and then nothing. Had the coordinator pushed 65 controls before the
-//! first look, the last would have been handed back, since a ring has 64 slots.
+//! A coordinator has the one end, `post`, and a worker the other:
+//!
+//! ```rust
+//! let (mut post, mut mail) = mail_rings(alloc)?;
+//! assert!(rt; post.push(Control::Claim).is_ok() && post.push(Control::Pause).is_ok());
+//! assert!(rt; mail.look() == Some(Control::Claim));
+//! assert!(rt; mail.look() == Some(Control::Pause));
+//! assert!(rt; mail.look() == None);
+//! mail.note(Note::Held);
+//! assert!(rt; post.hear() == Some(Note::Held) && post.hear() == None);
+//! ```
+//!
+//! Three looks were made, of which one was answered by a pause. Had the coordinator pushed 65 controls before the first
+//! look, the last would have been handed back, since a ring has 64 slots.
 #![tactic(auto)]
 
 mod gate;

@@ -6,7 +6,20 @@
 //!
 //! # Example
 //!
-//! Five units for two workers, of which only the first has anything to do. Both are starved at first, so they get 3 and 2. The
+//! Five units for two workers, both of which are starved at first:
+//!
+//! ```rust
+//! let (board, mut chief, mut seats) = Board::new(alloc, 5, 2)?;
+//! let mut principal = Principal::new(2);
+//! let mut needs = [Need::Absent; PLACES];
+//! needs[0] = Need::Starved;
+//! needs[1] = Need::Starved;
+//! let order = principal.round(&mut chief, &board, &needs);
+//! assert!(rt; order.seen == Seen::Open && order.claim[0] && order.claim[1]);
+//! assert_eq!(rt; seats[0].claim(&board), 3);
+//! ```
+//!
+//! The same five units round by round, where only the first worker has anything to do. Both get 3 and 2 at first. The
 //! first counts its three and is starved again; the second still has its allotment, and is able to wait:
 //!
 //! | Needs | What `round` does | Answer |

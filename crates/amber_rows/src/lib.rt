@@ -4,6 +4,26 @@
 //! their text, the reading of a scan's file into typed rows, conditions, and the workflow itself.
 //! The definitions in `specs/` say what each of these means; whatever stands above names no more
 //! than these words.
+//!
+//! # Example
+//!
+//! The columns of `schema` are `number` and `word`. A file's records are typed, sorted and written:
+//!
+//! ```rust
+//! let mut reader = RecordReader::open(alloc, b"number,word\n20,\n-1,\"a,b\"\nx,c\n");
+//! let mut fields = ByteRecord::new(alloc);
+//! let mut rows = Vec::new(alloc);
+//! while reader.next(&mut fields)? {
+//!     if let Ok(row) = type_record(alloc, &fields, &schema)? {
+//!         rows.push(row)?;
+//!     }
+//! }
+//! sort(&mut rows);
+//! let text = append_rows(alloc, Vec::new(alloc), &rows)?;
+//! ```
+//!
+//! Then `text` is `-1,"a,b"` and `20,`, a line each. The first and the last record are no rows, since their first field
+//! is no number: `type_record` answers `Err(RowFault::Int(1))` inside its `Ok`.
 #![tactic(auto)]
 
 pub mod agg;

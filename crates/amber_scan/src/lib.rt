@@ -9,11 +9,25 @@
 //! Typing takes memory. Where it is wanting nothing is taken, and the share stays as it was. What was read ahead can be
 //! looked at while it is left, and is taken without memory.
 //!
-//! An example: a file with the column `n` of numbers and the records `7`, `x`, `8`, of two workers. The share of the
-//! first has record 1, the row of 7, and record 3, the row of 8. That of the second has record 2, the fault that its
-//! first field is no number.
-//!
 //! `specs/Shares.antt` says what a share is, over the whole list of typed records.
+//!
+//! # Example
+//!
+//! The file is `n\n7\nx\n8\n`, and `schema` has the column `n` of numbers. It is dealt to two workers:
+//!
+//! ```rust
+//! let shares = deal(&rt, alloc, &file, &schema, 2, 1)?;
+//! for mut share in shares {
+//!     for _ in 0..share.left() {
+//!         if let Some(one) = share.next(None)? {
+//!             println!(rt; "{} {}", one.number, one.what.is_ok())?;
+//!         }
+//!     }
+//! }
+//! ```
+//!
+//! It prints `1 true` and `3 true`, which are the rows of 7 and of 8, and for the second worker `2 false`: the fault
+//! that its first field is no number. A file that begins with `m` would be refused: `ScanErr::Header`.
 #![tactic(auto)]
 
 mod dealing;

@@ -2,6 +2,22 @@
 //!
 //! The definition `script_of` in `specs/` says which commands a text means for a workflow, or which line
 //! is its first bad one and why; `said_by` says what one line means.
+//!
+//! # Example
+//!
+//! `f` is a filter, operator 2, and `s` the sink of the workflow. A line is read:
+//!
+//! ```rust
+//! match read_line(alloc, line, &flow)? {
+//!     ScriptLine::Skipped => println!(rt; "nothing")?,
+//!     ScriptLine::Command(_) => println!(rt; "a command")?,
+//!     ScriptLine::Bad(why) => println!(rt; "{why}")?,
+//! }
+//! ```
+//!
+//! For `pause "f" 2` the command is `Command::Pause { op: 2, n: 2 }`; for `# run` it prints `nothing`, and for
+//! `pause s 0` it prints `Kind`, since a sink emits no rows. `read_script` reads all lines: of `run`, a blank line and
+//! `pause s 0` it gives `ScriptErr::Bad { line: 3, why: ScriptWhy::Kind }`.
 #![tactic(auto)]
 
 mod columns;

@@ -7,9 +7,18 @@
 //!
 //! # Example
 //!
-//! A session is fed `pau`, and nothing comes of it. Then it is fed `se f 0`, a line feed, `run` and another one. To the first line
-//! `refused 1 Number` is said, since a pause is of one row at least; for the second the workers run, the item of that is written
-//! into LOG, and the reply is put. `finish` runs to the end.
+//! Of a workflow `f` is the filter:
+//!
+//! ```rust
+//! let mut session = Session::start(&rt, alloc, words, &mut folder)?;
+//! session.feed(&rt, b"pau", &mut folder, &mut out, &OpenGate)?;
+//! session.feed(&rt, b"se f 0\nrun\n", &mut folder, &mut out, &OpenGate)?;
+//! session.finish(&rt, &mut folder, &mut out, &OpenGate)?;
+//! ```
+//!
+//! Nothing comes of the first `feed`, since no line has ended. In the second `refused 1 Number` is said to the first
+//! line, since a pause is of one row at least; for the second line the workers run, the item of that is written into
+//! LOG, and the reply `stop end` is put. `finish` runs to the end and puts the answer.
 #![tactic(auto)]
 
 pub use amber_course::{Failure, InputFault, Status};

@@ -8,8 +8,19 @@
 //!
 //! # Example
 //!
-//! `sentence_of(b"refused 3 Operator\n")` is `There is no operator with this id.`, and `sentence_of(b"rows 3\n")` is nothing,
-//! since that line refuses nothing.
+//! A refusal is put into the standard output, at a terminal:
+//!
+//! ```rust
+//! let sentence = sentence_of(b"refused 3 Operator\n");
+//! assert!(rt; sentence == Some("There is no operator with this id."));
+//! assert!(rt; sentence_of(b"rows 3\n").is_none());
+//! let screen = Screen::new(&rt, true, None);
+//! let mut out = TerminalSink::new(RealSink::new(&rt), &screen);
+//! out.put(b"refused 3 Operator\n")?;
+//! ```
+//!
+//! Then the line stands on the standard output, and that sentence after it on the standard error. To `rows 3` nothing
+//! is told, since that line refuses nothing. With `false` for `true`, where there is no terminal, no sentence is told.
 #![tactic(auto)]
 
 mod screen;

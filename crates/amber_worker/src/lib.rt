@@ -23,9 +23,21 @@
 //!
 //! # Example
 //!
-//! A filter of which 400 rows are in the inbox is driven, and its mail answers nothing, nothing, and pause. It makes three
-//! turns: it takes the batch (`t 0 0`), takes a row (`g 1 0`), and is paused (`p`). Then 399 rows are left and one is
-//! pending. In the next leg, told nothing, it goes on to its end.
+//! To a filter that passes all rows 400 rows were sent, as a full batch, and then the last batch, which has no row.
+//! `answers` are nothing, nothing and a pause:
+//!
+//! ```rust
+//! let mut mail = PlannedMail::new(Plan::new(answers));
+//! let drove = filter.drive(None, &mut mail, &OpenGate, 1000)?;
+//! assert!(rt; drove.turns == 3 && drove.last == Some(Turn::Paused));
+//! filter.begin();
+//! let drove = filter.drive(None, &mut SilentMail::new(), &OpenGate, 1000)?;
+//! assert!(rt; drove.turns == 802 && drove.last == Some(Turn::Ended));
+//! ```
+//!
+//! In the first drive it takes the batch (`t 0 0`), takes a row (`g 1 0`), and is paused (`p`): 399 rows are left and
+//! one is pending. In the next leg it emits that one and takes and emits the others (`g 399 400`), takes the last batch
+//! (`t 0 1`), and finishes (`f`).
 #![tactic(auto)]
 
 mod counting;
