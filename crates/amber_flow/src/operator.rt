@@ -1,6 +1,6 @@
 //! Reads one operator. Rests on `head` and `parts`.
 
-ghost use Rattle.std.specs.Prelude.{All, ◌≡◌, ◌<◌, length, IfOk};
+ghost use Rattle.std.specs.Prelude.{All, ◌<◌, length, IfOk};
 ghost use Rattle.serde_json.specs.View.{view};
 ghost use Rattle.amber_rows.specs.FlowRules.{IsNext};
 ghost use Rattle.amber_flow.specs.Inputs.{IsNarrow};
