@@ -8,7 +8,7 @@ use Rattle.amber_rows.specs.declared.flow.Operator.{Operator}
 use Rattle.amber_rows.specs.Chain.{◌>>=◌}
 use Rattle.amber_flow.specs.Answers.{AnswersFlow, RefusesAt, failure_at}
 use Rattle.amber_flow.specs.Fields.{array_at}
-use Rattle.amber_flow.specs.Reads.{Refuses}
+use Rattle.amber_flow.specs.PartAnswers.{RefusesPart}
 use Rattle.amber_flow.specs.Workflow.{check_whole, fault_at, flow_of, is_flow_length, operators_from}
 use Rattle.amber_flow.specs.declared.error.Fault.{Fault}
 use Rattle.amber_flow.specs.declared.error.FlowErr.{FlowErr}
@@ -40,7 +40,7 @@ flow-read tree trees read at sized is =
     rw (found, length-map trees view, ← sized, is)
 
 -- the failure of a part is that of the whole
-pub refused-at : {A B : Type 0} (op : ℕ) (failure : ReadErr) (step : Result A FlowWhy) (meant : Result B Fault) → Refuses failure step → ((why : FlowWhy) → Err why ≡ step → meant ≡ Err (fault_at op why)) → RefusesAt (failure_at op failure) meant
+pub refused-at : {A B : Type 0} (op : ℕ) (failure : ReadErr) (step : Result A FlowWhy) (meant : Result B Fault) → RefusesPart failure step → ((why : FlowWhy) → Err why ≡ step → meant ≡ Err (fault_at op why)) → RefusesAt (failure_at op failure) meant
 refused-at op (read_err.Bad why) step meant is more = more why is
 refused-at op read_err.NoMemory step meant is more = tt
 

@@ -1,6 +1,6 @@
 -- What is answered where a step of a reader fails.
 use Rattle.std.proofs.Common.{◌≡◌, Option, Some, None, ok_or, option_and_then, Result, Ok, Err, IsErrAnd, refl, sym, ap, subst}
-use Rattle.amber_flow.specs.Reads.{Reads, Refuses}
+use Rattle.amber_flow.specs.PartAnswers.{AnswersPart, RefusesPart}
 use Rattle.amber_flow.specs.declared.error.FlowWhy.{FlowWhy}
 use Rattle.amber_flow.specs.declared.error.ReadErr.{ReadErr}
 use Rattle.amber_flow.specs.declared.error.ReadErr.TheVariants.{Bad, NoMemory}
@@ -27,19 +27,19 @@ ok_or-none o other e why none is nothing =
     let same : why ≡ e = cc in
     rw (← nothing) (ap Err same)
 
-pub no_memory : {A : Type 0} (r : Result A ReadErr) (meant : Result A FlowWhy) → IsErrAnd r (λ e. e ≡ NoMemory) → Reads r meant
+pub no_memory : {A : Type 0} (r : Result A ReadErr) (meant : Result A FlowWhy) → IsErrAnd r (λ e. e ≡ NoMemory) → AnswersPart r meant
 no_memory (Ok x) meant failed = absurd failed
-no_memory {A = A} (Err e) meant failed = subst (λ (e : ReadErr). Refuses {A = A} e meant) (sym failed) tt
+no_memory {A = A} (Err e) meant failed = subst (λ (e : ReadErr). RefusesPart {A = A} e meant) (sym failed) tt
 
-pub refused : {A : Type 0} (r : Result A ReadErr) (why : FlowWhy) → IsErrAnd r (λ e. e ≡ Bad why) → Reads r (Err why)
+pub refused : {A : Type 0} (r : Result A ReadErr) (why : FlowWhy) → IsErrAnd r (λ e. e ≡ Bad why) → AnswersPart r (Err why)
 refused (Ok x) why failed = absurd failed
-refused {A = A} (Err e) why failed = subst (λ (e : ReadErr). Refuses {A = A} e (Err why)) (sym failed) refl
+refused {A = A} (Err e) why failed = subst (λ (e : ReadErr). RefusesPart {A = A} e (Err why)) (sym failed) refl
 
-Refuses-more : {A B : Type 0} (e : ReadErr) (step : Result A FlowWhy) (meant : Result B FlowWhy) → Refuses e step → ((why : FlowWhy) → Err why ≡ step → Err why ≡ meant) → Refuses e meant
-Refuses-more (Bad why) step meant is more = more why is
-Refuses-more NoMemory step meant is more = tt
+RefusesPart-more : {A B : Type 0} (e : ReadErr) (step : Result A FlowWhy) (meant : Result B FlowWhy) → RefusesPart e step → ((why : FlowWhy) → Err why ≡ step → Err why ≡ meant) → RefusesPart e meant
+RefusesPart-more (Bad why) step meant is more = more why is
+RefusesPart-more NoMemory step meant is more = tt
 
 -- a step's failure is handed on
-pub handed_on : {A B : Type 0} (r : Result B ReadErr) (e : ReadErr) (step : Result A FlowWhy) (meant : Result B FlowWhy) → IsErrAnd r (λ y. y ≡ e) → Refuses e step → ((why : FlowWhy) → Err why ≡ step → Err why ≡ meant) → Reads r meant
+pub handed_on : {A B : Type 0} (r : Result B ReadErr) (e : ReadErr) (step : Result A FlowWhy) (meant : Result B FlowWhy) → IsErrAnd r (λ y. y ≡ e) → RefusesPart e step → ((why : FlowWhy) → Err why ≡ step → Err why ≡ meant) → AnswersPart r meant
 handed_on (Ok x) e step meant failed is more = absurd failed
-handed_on {B = B} (Err y) e step meant failed is more = subst (λ (e : ReadErr). Refuses {A = B} e meant) (sym failed) (Refuses-more e step meant is more)
+handed_on {B = B} (Err y) e step meant failed is more = subst (λ (e : ReadErr). RefusesPart {A = B} e meant) (sym failed) (RefusesPart-more e step meant is more)

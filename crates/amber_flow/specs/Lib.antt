@@ -7,7 +7,7 @@ pub mod Inputs
 pub mod Joins
 pub mod Names
 pub mod Operators
+pub mod PartAnswers
 pub mod Parts
-pub mod Reads
 pub mod Words
 pub mod Workflow

@@ -4,7 +4,7 @@ ghost use Rattle.std.specs.Prelude.{◌≡◌, ◌++◌, ◌≤◌, IfOk, OnOk, 
 ghost use Rattle.std.specs.List.{filter_map, list_all};
 ghost use Rattle.amber_rows.specs.Columns.{agg_kind};
 ghost use Rattle.amber_flow.specs.Aggregates.{agg_column, agg_of, behind, is_agg_text};
-ghost use Rattle.amber_flow.specs.Reads.{Reads};
+ghost use Rattle.amber_flow.specs.PartAnswers.{AnswersPart};
 ghost use Rattle.amber_flow.specs.declared.error.FlowWhy.TheVariants.{Column as NoColumn};
 ghost use Rattle.amber_rows.specs.Chain.{each};
 
@@ -59,7 +59,7 @@ fn read_agg(columns: &[Column], text: &str) -> Option<Agg>
 /// The aggregates that texts mean, where the columns that they name are there.
 pub fn read_aggs(alloc: Global, columns: &[Column], texts: &[&str]) -> Result<Aggs, ReadErr>
     requires { length columns.now ≤ 64 }
-    ensures { Reads result (ok_or (each (agg_of columns.now)
+    ensures { AnswersPart result (ok_or (each (agg_of columns.now)
         (map (λ text. text.now) texts.now)) NoColumn) }
 {
     let mut aggs = Vec::new(alloc);

@@ -6,7 +6,7 @@ ghost use Rattle.serde_json.specs.View.{view};
 ghost use Rattle.amber_rows.specs.Columns.{names_of, are_apart, is_column_name, column_kind_at};
 ghost use Rattle.amber_rows.specs.Chain.{each};
 ghost use Rattle.amber_flow.specs.Columns.{column_named, column_number, column_of, columns_of};
-ghost use Rattle.amber_flow.specs.Reads.{Reads};
+ghost use Rattle.amber_flow.specs.PartAnswers.{AnswersPart};
 ghost use Rattle.amber_flow.specs.declared.error.FlowWhy.TheVariants.{Column as NoColumn};
 
 use crate::error::{FlowWhy, ReadErr};
@@ -19,7 +19,7 @@ use std::alloc::{AllocError, Global};
 /// The column that a pair of a name and a kind means.
 #[tactic(auto, unfolding(crate::specs::Columns::column_of))]
 fn read_column(alloc: Global, tree: &Value) -> Result<Column, ReadErr>
-    ensures column { Reads result (column_of (view tree.now)) }
+    ensures column { AnswersPart result (column_of (view tree.now)) }
     ensures named { IfOk result (λ column. is_column_name column.name ≡ true) }
 {
     let name = text_item(tree, 0).ok_or(FlowWhy::Shape)?;
@@ -34,7 +34,7 @@ fn read_column(alloc: Global, tree: &Value) -> Result<Column, ReadErr>
 
 /// The columns that a list of pairs means.
 pub fn read_columns(alloc: Global, trees: &[Value]) -> Result<Schema, ReadErr>
-    ensures columns { Reads result (columns_of (map view trees.now)) }
+    ensures columns { AnswersPart result (columns_of (map view trees.now)) }
     ensures named { IfOk result
         (λ columns. list_all is_column_name (names_of columns) ≡ true) }
 {
@@ -79,7 +79,7 @@ pub fn column_with<'c>(columns: &'c [Column], name: &str) -> Option<&'c Column>
 /// The numbers of the columns with these names, where each is a column's.
 pub fn find_columns(alloc: Global, columns: &[Column], names: &[&str]) -> Result<Cols, ReadErr>
     requires { length columns.now ≤ 64 }
-    ensures { Reads result (ok_or (each (column_number columns.now)
+    ensures { AnswersPart result (ok_or (each (column_number columns.now)
         (map (λ name. name.now) names.now)) NoColumn) }
 {
     let mut numbers = Vec::new(alloc);

@@ -5,7 +5,7 @@ ghost use Rattle.serde_json.specs.Find.{as_str};
 ghost use Rattle.serde_json.specs.View.{view};
 ghost use Rattle.amber_rows.specs.Chain.{each};
 ghost use Rattle.amber_flow.specs.Fields.{array_at, text_at, text_in, texts_at};
-ghost use Rattle.amber_flow.specs.Reads.{ReadsAs};
+ghost use Rattle.amber_flow.specs.PartAnswers.{AnswersPartSeen};
 ghost use Rattle.amber_flow.specs.declared.error.FlowWhy.TheVariants.{Shape};
 
 use crate::error::{FlowWhy, ReadErr};
@@ -39,7 +39,7 @@ pub fn list_field<'v>(object: &'v Value, key: &str) -> Result<&'v [Value], FlowW
 
 /// The texts of a list, where each value is one.
 fn read_texts(alloc: Global, trees: &[Value]) -> Result<Vec<&str>, ReadErr>
-    ensures { ReadsAs (λ texts. map (λ text. text.now) texts.items) result
+    ensures { AnswersPartSeen (λ texts. map (λ text. text.now) texts.items) result
         (ok_or (each as_str (map view trees.now)) Shape) }
 {
     let mut texts = Vec::new(alloc);
@@ -51,7 +51,7 @@ fn read_texts(alloc: Global, trees: &[Value]) -> Result<Vec<&str>, ReadErr>
 
 /// The texts of the list at a key of an object, where it has nothing else.
 pub fn texts_field<'v>(alloc: Global, object: &'v Value, key: &str) -> Result<Vec<&'v str>, ReadErr>
-    ensures { ReadsAs (λ texts. map (λ text. text.now) texts.items) result
+    ensures { AnswersPartSeen (λ texts. map (λ text. text.now) texts.items) result
         (ok_or (texts_at key.now (view object.now)) Shape) }
 {
     read_texts(alloc, list_field(object, key)?)

@@ -6,7 +6,7 @@ ghost use Rattle.amber_rows.specs.Columns.{IsCondOn, kind_of};
 ghost use Rattle.amber_flow.specs.Inputs.{IsNarrow};
 ghost use Rattle.amber_flow.specs.Operators.{cond_of, flow_constant, filter_of};
 ghost use Rattle.amber_flow.specs.Parts.{IsMeant};
-ghost use Rattle.amber_flow.specs.Reads.{Reads};
+ghost use Rattle.amber_flow.specs.PartAnswers.{AnswersPart};
 ghost use Rattle.amber_flow.specs.declared.error.FlowWhy.TheVariants.{Mismatch};
 
 use crate::columns::find_column;
@@ -21,7 +21,7 @@ use std::alloc::Global;
 
 /// The constant that a value is for a column of this kind.
 fn read_constant(alloc: Global, kind: ColKind, tree: &Value) -> Result<Cell, ReadErr>
-    ensures constant { Reads result (ok_or (flow_constant kind (view tree.now)) Mismatch) }
+    ensures constant { AnswersPart result (ok_or (flow_constant kind (view tree.now)) Mismatch) }
     ensures kind { IfOk result (λ cell. kind_of cell ≡ kind) }
 {
     match kind {
@@ -46,7 +46,7 @@ fn read_cond(
     constant: &Value,
 ) -> Result<Cond, ReadErr>
     requires { length schema.now ≤ 64 }
-    ensures cond { Reads result (cond_of schema.now name.now op (view constant.now)) }
+    ensures cond { AnswersPart result (cond_of schema.now name.now op (view constant.now)) }
     ensures fits { IfOk result (λ cond. IsCondOn schema.now cond) }
 {
     let columns = schema.get();

@@ -11,7 +11,7 @@ ghost use Rattle.amber_flow.specs.Columns.{column_named};
 ghost use Rattle.amber_flow.specs.Groups.{group_of, group_over};
 ghost use Rattle.amber_flow.specs.Inputs.{IsNarrow};
 ghost use Rattle.amber_flow.specs.Parts.{IsMeant};
-ghost use Rattle.amber_flow.specs.Reads.{Reads};
+ghost use Rattle.amber_flow.specs.PartAnswers.{AnswersPart};
 
 use crate::aggregates::{add_agg_columns, are_aggregates, are_summable, read_aggs};
 use crate::columns::{add_named, find_columns};
@@ -51,7 +51,7 @@ fn read_over(
     texts: &[&str],
 ) -> Result<Parts, ReadErr>
     requires { length columns.now ≤ 64 }
-    ensures parts { Reads result (group_over input columns.now
+    ensures parts { AnswersPart result (group_over input columns.now
         (map (λ name. name.now) names.now) (map (λ text. text.now) texts.now)) }
     ensures kind { IfOk result (λ parts. (before : List OneOperator) → IsEarlier before input
         → HasInput before input columns.now → IsKind before parts.what parts.schema) }

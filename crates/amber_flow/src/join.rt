@@ -7,7 +7,7 @@ ghost use Rattle.amber_rows.specs.Columns.{IsEarlier, column_kind_at};
 ghost use Rattle.amber_flow.specs.Inputs.{IsNarrow};
 ghost use Rattle.amber_flow.specs.Joins.{AreKeys, are_alike, are_paired, are_same_kinds, join_of, join_over, keys_of};
 ghost use Rattle.amber_flow.specs.Parts.{IsMeant};
-ghost use Rattle.amber_flow.specs.Reads.{Reads};
+ghost use Rattle.amber_flow.specs.PartAnswers.{AnswersPart};
 
 use crate::columns::{add_columns, find_columns, kind_of_column};
 use crate::error::{FlowWhy, ReadErr};
@@ -78,7 +78,7 @@ fn read_keys(
 ) -> Result<JoinKeys, ReadErr>
     requires narrow_build { length build.now ≤ 64 }
     requires narrow_probe { length probe.now ≤ 64 }
-    ensures keys { Reads result (keys_of build.now probe.now
+    ensures keys { AnswersPart result (keys_of build.now probe.now
         (map (λ name. name.now) build_names.now) (map (λ name. name.now) probe_names.now)) }
     ensures fit { IfOk result
         (AreKeys build.now probe.now (map (λ name. name.now) build_names.now)) }

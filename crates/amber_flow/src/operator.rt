@@ -5,7 +5,7 @@ ghost use Rattle.serde_json.specs.View.{view};
 ghost use Rattle.amber_rows.specs.FlowRules.{IsNext};
 ghost use Rattle.amber_flow.specs.Inputs.{IsNarrow};
 ghost use Rattle.amber_flow.specs.Operators.{operator_of, SinkIsLast};
-ghost use Rattle.amber_flow.specs.Reads.{Reads};
+ghost use Rattle.amber_flow.specs.PartAnswers.{AnswersPart};
 
 use crate::error::ReadErr;
 use crate::fields::text_field;
@@ -25,7 +25,7 @@ pub fn read_operator(
 ) -> Result<Operator, ReadErr>
     requires few { length before.now < 32 }
     requires narrow { All IsNarrow before.now }
-    ensures operator { Reads result (operator_of count before.now (view tree.now)) }
+    ensures operator { AnswersPart result (operator_of count before.now (view tree.now)) }
     ensures next { IfOk result (λ operator. IsNext before.now operator) }
     ensures placed { IfOk result (SinkIsLast count before.now) }
 {

@@ -7,7 +7,7 @@ ghost use Rattle.amber_rows.specs.Kinds.{is_sink, IsKind};
 ghost use Rattle.amber_flow.specs.Inputs.{IsNarrow};
 ghost use Rattle.amber_flow.specs.Operators.{check_columns, parts_of};
 ghost use Rattle.amber_flow.specs.Names.{is_sink_kind};
-ghost use Rattle.amber_flow.specs.Reads.{Reads};
+ghost use Rattle.amber_flow.specs.PartAnswers.{AnswersPart};
 
 use crate::columns::are_all_apart;
 use crate::error::{FlowWhy, ReadErr};
@@ -38,7 +38,7 @@ pub fn read_parts(
 ) -> Result<Parts, ReadErr>
     requires few { length before.now < 32 }
     requires narrow { All IsNarrow before.now }
-    ensures parts { Reads result (parts_of kind before.now (view tree.now)) }
+    ensures parts { AnswersPart result (parts_of kind before.now (view tree.now)) }
     ensures kind { IfOk result (λ parts. IsKind before.now parts.what parts.schema) }
     ensures sink { IfOk result (λ parts. is_sink parts.what ≡ is_sink_kind kind) }
 {

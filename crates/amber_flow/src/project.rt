@@ -8,7 +8,7 @@ ghost use Rattle.amber_flow.specs.Columns.{renaming_of, source_of};
 ghost use Rattle.amber_flow.specs.Inputs.{IsNarrow};
 ghost use Rattle.amber_flow.specs.Operators.{project_of};
 ghost use Rattle.amber_flow.specs.Parts.{IsMeant};
-ghost use Rattle.amber_flow.specs.Reads.{ReadsAs};
+ghost use Rattle.amber_flow.specs.PartAnswers.{AnswersPartSeen};
 ghost use Rattle.amber_flow.specs.declared.error.FlowWhy.TheVariants.{Shape};
 
 use crate::columns::{column_with, find_columns};
@@ -33,7 +33,7 @@ fn source(pair: &Value) -> Option<&str>
 
 /// The names of the columns that pairs rename, where each value is such a pair.
 fn read_sources(alloc: Global, pairs: &[Value]) -> Result<Vec<&str>, ReadErr>
-    ensures { ReadsAs (λ names. map (λ name. name.now) names.items) result
+    ensures { AnswersPartSeen (λ names. map (λ name. name.now) names.items) result
         (ok_or (each source_of (map view pairs.now)) Shape) }
 {
     let mut names = Vec::new(alloc);

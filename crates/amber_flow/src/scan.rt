@@ -5,7 +5,7 @@ ghost use Rattle.serde_json.specs.View.{view};
 ghost use Rattle.amber_rows.specs.declared.flow.Operator.{Operator as OneOperator};
 ghost use Rattle.amber_rows.specs.Kinds.{is_sink, IsKind};
 ghost use Rattle.amber_flow.specs.Operators.{scan_of};
-ghost use Rattle.amber_flow.specs.Reads.{Reads};
+ghost use Rattle.amber_flow.specs.PartAnswers.{AnswersPart};
 
 use crate::columns::read_columns;
 use crate::error::{FlowWhy, ReadErr};
@@ -18,7 +18,7 @@ use std::alloc::Global;
 /// What a scan does.
 #[tactic(auto, unfolding(crate::specs::Operators::scan_of))]
 pub fn read_scan(alloc: Global, tree: &Value) -> Result<Parts, ReadErr>
-    ensures parts { Reads result (scan_of (view tree.now)) }
+    ensures parts { AnswersPart result (scan_of (view tree.now)) }
     ensures kind { IfOk result (λ parts. (before : List OneOperator)
         → IsKind before parts.what parts.schema) }
     ensures sink { IfOk result (λ parts. is_sink parts.what ≡ false) }

@@ -5,7 +5,7 @@ ghost use Rattle.serde_json.specs.View.{view};
 ghost use Rattle.amber_rows.specs.Kinds.{is_sink, IsKind};
 ghost use Rattle.amber_flow.specs.Inputs.{IsNarrow};
 ghost use Rattle.amber_flow.specs.Operators.{sink_of};
-ghost use Rattle.amber_flow.specs.Reads.{Reads};
+ghost use Rattle.amber_flow.specs.PartAnswers.{AnswersPart};
 
 use crate::error::ReadErr;
 use crate::fields::text_field;
@@ -20,7 +20,7 @@ use std::alloc::Global;
 pub fn read_sink(alloc: Global, before: &[Operator], tree: &Value) -> Result<Parts, ReadErr>
     requires few { length before.now < 32 }
     requires narrow { All IsNarrow before.now }
-    ensures parts { Reads result (sink_of before.now (view tree.now)) }
+    ensures parts { AnswersPart result (sink_of before.now (view tree.now)) }
     ensures kind { IfOk result (λ parts. IsKind before.now parts.what parts.schema) }
     ensures sink { IfOk result (λ parts. is_sink parts.what ≡ true) }
 {
