@@ -28,7 +28,7 @@ use Rattle.amber_meaning.proofs.Lists.{numbered_or}
 use Rattle.amber_meaning.proofs.Operators.{nth-here, records-here, wrong_header-here, wrong_header-more}
 use Rattle.amber_scan.specs.Shares.{ShareState, scanned_number, scanned_records}
 use Rattle.amber_worker.specs.AtPosition.{HasShare}
-use Rattle.amber_worker.specs.Fields.{arrival_of}
+use Rattle.amber_operators.specs.Handed.{arrival_of}
 use Rattle.amber_worker.proofs.Shares.{share-dealt}
 use Rattle.amber_dataflow.specs.Start.{AreSharesDealt, IsDealtShare, share_of_worker}
 

@@ -7,7 +7,8 @@ use Rattle.amber_log.specs.Grammar.{AreEntries}
 use Rattle.amber_meaning.specs.Position.{Position}
 use Rattle.amber_meaning.specs.Rules.{Leads}
 use Rattle.amber_worker.specs.AtPosition.{Context, IsAtPosition}
-use Rattle.amber_worker.specs.Changes.{ShowsSet, with_value, with_when}
+use Rattle.amber_worker.specs.Changes.{ShowsSet, with_when}
+use Rattle.amber_operators.specs.States.{with_value}
 use Rattle.amber_worker.specs.WorkerState.{WorkerState}
 use Rattle.amber_worker.proofs.Commands.{shows-set, stands-watched}
 use Rattle.amber_dataflow.specs.AtWork.{worker_state_at}

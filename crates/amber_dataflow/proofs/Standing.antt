@@ -17,7 +17,8 @@ use Rattle.amber_meaning.specs.Rules.{Leads, Orders}
 use Rattle.amber_meaning.specs.State.{State, emitted_by, have_finished, let_go, position_at, steps_in}
 use Rattle.amber_meaning.proofs.OneState.{position-get_or}
 use Rattle.amber_worker.specs.AtPosition.{Context, IsAtPosition, Shows, placement_of}
-use Rattle.amber_worker.specs.Changes.{StandsAtLeg, at_leg_start, with_value, with_when}
+use Rattle.amber_worker.specs.Changes.{StandsAtLeg, at_leg_start, with_when}
+use Rattle.amber_operators.specs.States.{with_value}
 use Rattle.amber_worker.specs.WorkerState.{WorkerState, steps_made}
 use Rattle.amber_worker.proofs.Commands.{stands-at_leg, stands-watched}
 use Rattle.amber_dataflow.specs.AtWork.{AreAtWork, context_in, emitted_at, state_reached, steps_by, worker_state_at}

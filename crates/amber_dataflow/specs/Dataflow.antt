@@ -16,7 +16,8 @@ use Rattle.amber_meaning.specs.Views.{answer_in, inspected_of}
 use Rattle.amber_meaning.specs.declared.answer.Answer.{Answer}
 use Rattle.amber_meaning.specs.declared.view.WorkerView.{WorkerView}
 use Rattle.amber_board.specs.declared.types.WorkSeat.{WorkSeat}
-use Rattle.amber_worker.specs.Changes.{armed_at, at_leg_start, disarmed_at, held_dropped, resumed_at, row_held, with_value}
+use Rattle.amber_worker.specs.Changes.{armed_at, at_leg_start, disarmed_at, held_dropped, resumed_at, row_held}
+use Rattle.amber_operators.specs.States.{with_value}
 use Rattle.amber_worker.specs.Counting.{IsSameSeat}
 use Rattle.amber_worker.specs.Turning.{WritesStep}
 use Rattle.amber_worker.specs.WorkerState.{WorkerState, needs_unit}

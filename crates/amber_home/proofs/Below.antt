@@ -17,7 +17,8 @@ use Rattle.amber_log.specs.declared.effect.Change.{Change}
 use Rattle.amber_log.specs.declared.effect.Change.TheVariants as change
 use Rattle.amber_log.specs.declared.effect.Effect.{Effect}
 use Rattle.amber_meaning.specs.State.{put, worker_at}
-use Rattle.amber_worker.specs.Changes.{held_dropped, with_value}
+use Rattle.amber_worker.specs.Changes.{held_dropped}
+use Rattle.amber_operators.specs.States.{with_value}
 use Rattle.amber_worker.specs.WorkerState.{WorkerState}
 use Rattle.amber_dataflow.specs.AtWork.{worker_state_at}
 use Rattle.amber_dataflow.specs.Dataflow.{AreAllThere, DataflowState, rows_emitted, worker_set, worker_watching}

@@ -8,7 +8,8 @@ use Rattle.amber_log.specs.declared.effect.Change.{Change}
 use Rattle.amber_log.specs.declared.effect.Change.TheVariants as change
 use Rattle.amber_log.specs.declared.effect.Effect.{Effect}
 use Rattle.amber_meaning.specs.State.{worker_at}
-use Rattle.amber_worker.specs.Changes.{held_dropped, resumed_at, with_value}
+use Rattle.amber_worker.specs.Changes.{held_dropped, resumed_at}
+use Rattle.amber_operators.specs.States.{with_value}
 use Rattle.amber_worker.specs.WorkerState.{WorkerState}
 use Rattle.amber_dataflow.specs.AtWork.{turned_by, worker_state_at}
 use Rattle.amber_dataflow.specs.Dataflow.{AreAllThere, AreBack, AreCrewOf, DataflowState, all_resumed, constant_put, handed_out, leg_begun, row_dropped, turned_of, when_put, worker_begun, worker_resumed, worker_set, worker_watching}

@@ -13,20 +13,22 @@ use Rattle.amber_meaning.specs.Position.{one_if}
 use Rattle.amber_meaning.specs.Task.{Arrival, row_in}
 use Rattle.amber_meaning.specs.Refused.{refusal_in}
 use Rattle.amber_scan.specs.Shares.{ShareState}
-use Rattle.amber_link.specs.Sides.{IsTaken, have_all_ended, have_builders_ended}
+use Rattle.amber_link.specs.Sides.{IsTaken, have_all_ended, have_builders_ended, AreEnded, AreLooked}
 use Rattle.amber_link.specs.declared.upstreams.Upstream.{Upstream}
 use Rattle.amber_link.specs.declared.downstreams.Downstream.{Downstream}
-use Rattle.amber_link.specs.Sides.{AreEnded, AreLooked}
 use Rattle.amber_link.specs.Links.{has_some}
-use Rattle.amber_worker.specs.Fields.{AreFew, WorkerFields, row_from, rows_moved}
+use Rattle.amber_worker.specs.Fields.{AreFew, WorkerFields, rows_moved}
+use Rattle.amber_operators.specs.Handed.{row_from}
 use Rattle.amber_worker.specs.WorkerState.{WorkerState, has_ready}
-use Rattle.amber_worker.specs.Steps.{Becomes, Closes, Finishes, TakesBatch, TakesRow, columns_at_hand, gives_if, gone_on, is_group, keeps_if, turned_to, with_go}
-use Rattle.amber_worker.proofs.States.{closes-asked, closes-group, in_order-batch, in_order-row, in_order-settled}
+use Rattle.amber_operators.specs.States.{Becomes, Closes, is_group, turned_to}
+use Rattle.amber_worker.specs.Steps.{Finishes, TakesBatch, TakesRow, columns_at_hand, gone_on, with_go}
+use Rattle.amber_operators.specs.RowsTaken.{gives_if, keeps_if}
+use Rattle.amber_operators.proofs.States.{closes-asked, closes-group, in_order-batch, in_order-row, in_order-settled}
 use Rattle.amber_worker.specs.Counting.{DealsUnits, SeatSide, hand_in}
 use Rattle.amber_worker.specs.declared.counting.Dealing.{Dealing}
 use Rattle.amber_worker.specs.declared.counting.Dealing.TheVariants as dealing
-use Rattle.amber_worker.specs.declared.operator_state.OperatorState.{OperatorState}
-use Rattle.amber_worker.specs.declared.operator_state.OperatorState.TheVariants as operator_state
+use Rattle.amber_operators.specs.declared.operator_state.OperatorState.{OperatorState}
+use Rattle.amber_operators.specs.declared.operator_state.OperatorState.TheVariants as operator_state
 
 -- entries that speak of no more rows than this
 abbrev AreWithin : ℕ → List Entry → Type 0

@@ -12,12 +12,13 @@ use Rattle.amber_meaning.specs.Position.{Position, Restraint, is_emitted, kept, 
 use Rattle.amber_meaning.specs.Rules.{Leads}
 use Rattle.amber_meaning.specs.State.{let_go, restraint_released}
 use Rattle.amber_meaning.specs.Task.{Arrival, Role, Task}
-use Rattle.amber_worker.specs.AtPosition.{Context, DoesKind, IsAtPosition, KeepsRows, Shows}
-use Rattle.amber_worker.specs.Changes.{ShowsDropped, ShowsSet, ShowsWatching, StandsAtLeg, at_leg_start, held_dropped, with_value, with_when}
+use Rattle.amber_worker.specs.AtPosition.{Context, IsAtPosition, Shows}
+use Rattle.amber_operators.specs.States.{DoesKind, KeepsRows, with_value}
+use Rattle.amber_worker.specs.Changes.{ShowsDropped, ShowsSet, ShowsWatching, StandsAtLeg, at_leg_start, held_dropped, with_when}
 use Rattle.amber_worker.specs.WorkerState.{WorkerState}
 use Rattle.amber_worker.proofs.Apart.{shows-apart}
-use Rattle.amber_worker.specs.declared.operator_state.OperatorState.{OperatorState}
-use Rattle.amber_worker.specs.declared.operator_state.OperatorState.TheVariants as operator_state
+use Rattle.amber_operators.specs.declared.operator_state.OperatorState.{OperatorState}
+use Rattle.amber_operators.specs.declared.operator_state.OperatorState.TheVariants as operator_state
 
 -- ---- another constant
 

@@ -15,7 +15,8 @@ use Rattle.amber_worker.specs.Steps.{all_done, row_emitted}
 use Rattle.amber_meaning.proofs.Led.{Leads-push, no_batch}
 use Rattle.amber_worker.proofs.Journals.{AreEntries-push, AreEntries-with_go, Leads-go, first-passes}
 use Rattle.amber_worker.proofs.Sent.{send_all-end, send_all-row, unended}
-use Rattle.amber_worker.proofs.Produced.{kept-next, left-next, left-within}
+use Rattle.amber_worker.proofs.Produced.{kept-next, left-within}
+use Rattle.amber_operators.proofs.Lists.{left-next}
 use Rattle.amber_worker.proofs.Moves.{HasUnit, IsWorking, all-ended, free-shown, hand-shown, lets_by}
 
 -- ---- a row is emitted

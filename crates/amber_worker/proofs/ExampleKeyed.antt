@@ -20,7 +20,7 @@ use Rattle.amber_link.specs.declared.downstreams.Downstream.{Downstream}
 use Rattle.amber_worker.specs.AtPosition.{IsAtPosition, first_context}
 use Rattle.amber_worker.specs.Made.{AreFreshSenders, IsFresh, IsFreshIn, IsFreshOut}
 use Rattle.amber_worker.specs.WorkerState.{WorkerState, empty_worker_state}
-use Rattle.amber_worker.specs.declared.operator_state.OperatorState.TheVariants as operator_state
+use Rattle.amber_operators.specs.declared.operator_state.OperatorState.TheVariants as operator_state
 use Rattle.amber_worker.specs.declared.route.Route.TheVariants as route
 use Rattle.amber_worker.proofs.Commands.{stands-watched}
 use Rattle.amber_worker.specs.Changes.{with_when}

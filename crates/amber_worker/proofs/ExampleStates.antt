@@ -23,11 +23,12 @@ use Rattle.amber_link.specs.declared.ends.In.{In}
 use Rattle.amber_link.specs.declared.upstreams.Upstream.{Upstream}
 use Rattle.amber_link.proofs.Sides.{looked-same, pairwise-refl}
 use Rattle.amber_worker.specs.AtPosition.{Context, ReceiveAll, SendAll, Shows, no_base}
-use Rattle.amber_worker.specs.Fields.{row_from, rows_moved}
+use Rattle.amber_operators.specs.Handed.{row_from}
+use Rattle.amber_worker.specs.Fields.{rows_moved}
 use Rattle.amber_worker.specs.Steps.{with_go}
 use Rattle.amber_worker.specs.Turning.{HasTurned, IsNextTurn}
 use Rattle.amber_worker.specs.WorkerState.{WorkerState, empty_worker_state}
-use Rattle.amber_worker.specs.declared.operator_state.OperatorState.TheVariants as operator_state
+use Rattle.amber_operators.specs.declared.operator_state.OperatorState.TheVariants as operator_state
 use Rattle.amber_worker.specs.declared.route.Route.TheVariants as route
 use Rattle.amber_worker.specs.declared.turn.Turn.TheVariants as turn
 use Rattle.amber_worker.proofs.ExampleFlow.{numbers}

@@ -1,5 +1,5 @@
 -- What a worker counts stays within its steps as it takes and emits several rows.
-use Rattle.std.proofs.Common.{◌≡◌, ℕ, ◌+◌, ◌^◌, ◌<◌, ◌≤◌, List, [], ◌∷◌, ◌++◌, length, All, Option, Some, None, Bool, true, false, refl, sym, ap, ◌∙◌, arith, subst}
+use Rattle.std.proofs.Common.{◌≡◌, ℕ, ◌+◌, ◌^◌, ◌≤◌, List, [], ◌∷◌, ◌++◌, length, All, Option, Some, None, Bool, false, sym, ◌∙◌, arith, subst}
 use Rattle.std.specs.Option.{IfSome, is_some}
 use Rattle.amber_rows.specs.declared.value.Value.{Value}
 use Rattle.amber_rows.specs.declared.column.Column.{Column}
@@ -10,13 +10,13 @@ use Rattle.amber_meaning.specs.Position.{one_if}
 use Rattle.amber_scan.specs.Shares.{ShareState}
 use Rattle.amber_link.specs.declared.upstreams.Upstream.{Upstream}
 use Rattle.amber_link.specs.declared.downstreams.Downstream.{Downstream}
-use Rattle.amber_worker.specs.Fields.{AreFew, IsInOrder, WorkerFields, rows_moved}
-use Rattle.amber_worker.specs.RedoneRows.{BecomesWith}
-use Rattle.amber_worker.specs.Steps.{Becomes}
-use Rattle.amber_worker.specs.declared.operator_state.OperatorState.{OperatorState}
-use Rattle.amber_worker.specs.declared.operator_state.OperatorState.TheVariants as operator_state
+use Rattle.amber_worker.specs.Fields.{AreFew, WorkerFields, rows_moved}
+use Rattle.amber_operators.specs.States.{IsInOrder, Becomes}
+use Rattle.amber_operators.specs.ManyRows.{BecomesWith}
+use Rattle.amber_operators.specs.declared.operator_state.OperatorState.{OperatorState}
+use Rattle.amber_operators.specs.declared.operator_state.OperatorState.TheVariants as operator_state
 use Rattle.amber_worker.proofs.Bounds.{same-some}
-use Rattle.amber_worker.proofs.States.{in_order-row}
+use Rattle.amber_operators.proofs.States.{in_order-row}
 
 -- what is kept stays in order
 in_order-taking : (d now : OperatorState) (building : Bool) (columns : List Column) (arrivals : List Arrival) (taken : ℕ) (ins : List Upstream) → BecomesWith d building columns arrivals now

@@ -5,57 +5,22 @@ use Rattle.std.proofs.lemmas.Bool.{eq-eqb, eqb-true, false≢true, both_ways, or
 use Rattle.amber_rows.specs.Topology.{crew_of, op_of, reads, senders_of, sends_to, what_at, workers_of}
 use Rattle.amber_rows.specs.Lists.{numbers_below}
 use Rattle.amber_rows.specs.Operators.{first_keys, group_result}
-use Rattle.amber_rows.specs.Columns.{columns_at}
 use Rattle.amber_rows.specs.Kinds.{is_keyed, is_scan}
 use Rattle.amber_rows.specs.declared.flow.What.{What}
 use Rattle.amber_rows.specs.declared.flow.What.TheVariants as what
 use Rattle.amber_rows.specs.declared.flow.Operator.{Operator}
-use Rattle.amber_meaning.specs.Plan.{builders_in, arrival_columns}
+use Rattle.amber_meaning.specs.Plan.{builders_in}
 use Rattle.amber_meaning.specs.Position.{all_arrivals, is_complete, product, share_or}
-use Rattle.amber_meaning.specs.State.{first_constants}
-use Rattle.amber_meaning.specs.Task.{Arrival, Role, Task, built_of, suiting}
+use Rattle.amber_meaning.specs.Task.{Arrival, Role, Task, suiting}
 use Rattle.amber_meaning.specs.Produce.{closing}
 use Rattle.amber_meaning.specs.Kinds.{closing_rows, kept_rows}
 use Rattle.amber_meaning.proofs.Crews.{own-worker, worker-known, worker-op}
 use Rattle.amber_meaning.proofs.Numbers.{among, among-kept, in-below}
 use Rattle.amber_scan.specs.Shares.{ShareState}
-use Rattle.amber_join.specs.Join.{Join}
-use Rattle.amber_link.specs.declared.upstreams.Upstream.{Upstream}
-use Rattle.amber_worker.specs.Fields.{IsInOrder, rest_in}
-use Rattle.amber_worker.specs.Made.{IsOperatorStateOf, builds_for, handing_operator, is_join}
-use Rattle.amber_worker.specs.AtPosition.{DoesKind, HasShare, KeepsRows}
-use Rattle.amber_worker.specs.declared.operator_state.OperatorState.{OperatorState}
-use Rattle.amber_worker.specs.declared.operator_state.OperatorState.TheVariants as operator_state
+use Rattle.amber_operators.specs.Handed.{rest_in}
+use Rattle.amber_worker.specs.Made.{builds_for, has_build_side}
+use Rattle.amber_worker.specs.AtPosition.{HasShare}
 use Rattle.amber_worker.proofs.Produced.{produce-none, product-is}
-
--- what a new worker does under the orders before any command
-pub does-first : (d : OperatorState) (kind : What) (role : Role) → IsOperatorStateOf d kind → (is_scan kind ≡ true → role.senders ≡ []) → DoesKind d kind (first_constants kind) role
-does-first operator_state.Scan (what.Scan file) role is none = none refl
-does-first (operator_state.Filter cond) (what.Filter input own) role is none = is
-does-first (operator_state.Project from) (what.Project input columns) role is none = is
-does-first (operator_state.Join state) (what.Join build probe build_keys probe_keys) role is none = (ap (λ (s : Join). s.build_keys) is, ap (λ (s : Join). s.probe_keys) is)
-does-first (operator_state.Group state) (what.Group input keys aggs) role is none = (is.0, is.1)
-does-first operator_state.Sink (what.Sink input) role is none = tt
-does-first d kind role is none = absurd is
-
--- a new worker keeps nothing
-pub has-first : (d : OperatorState) (kind : What) (task : Task) → IsOperatorStateOf d kind → KeepsRows d task []
-unfolding built_of
-has-first operator_state.Scan kind task is = tt
-has-first (operator_state.Filter cond) kind task is = tt
-has-first (operator_state.Project from) kind task is = tt
-has-first (operator_state.Join state) (what.Join build probe build_keys probe_keys) task is = ap (λ (s : Join). s.rows) is
-has-first (operator_state.Group state) (what.Group input keys aggs) task is = is.2
-has-first operator_state.Sink kind task is = tt
-has-first d kind task is = absurd is
-
-pub columns-arrivals : (flow : List Operator) (op : ℕ) (kind : What) → columns_at flow (handing_operator kind op) ≡ arrival_columns flow op kind
-columns-arrivals flow op (what.Scan file) = refl
-columns-arrivals flow op (what.Filter input cond) = refl
-columns-arrivals flow op (what.Project input from) = refl
-columns-arrivals flow op (what.Join build probe build_keys probe_keys) = refl
-columns-arrivals flow op (what.Group input keys aggs) = refl
-columns-arrivals flow op (what.Sink input) = refl
 
 -- a scan is handed its share, all others nothing yet
 pub rest-first : (kind : What) (share : Option ShareState) (role : Role) → is_some share ≡ is_scan kind → HasShare share role
@@ -101,29 +66,10 @@ closing-first (what.Join build probe build_keys probe_keys) task share = refl
 closing-first (what.Group input keys aggs) task share = refl
 closing-first (what.Sink input) task share = refl
 
-pub scan-operator_state : (d : OperatorState) (kind : What) → IsOperatorStateOf d kind → is_scan kind ≡ true → d ≡ operator_state.Scan
-scan-operator_state operator_state.Scan kind is scans = refl
-scan-operator_state (operator_state.Filter cond) (what.Filter input own) is scans = absurd (false≢true scans)
-scan-operator_state (operator_state.Project from) (what.Project input columns) is scans = absurd (false≢true scans)
-scan-operator_state (operator_state.Join state) (what.Join build probe build_keys probe_keys) is scans = absurd (false≢true scans)
-scan-operator_state (operator_state.Group state) (what.Group input keys aggs) is scans = absurd (false≢true scans)
-scan-operator_state operator_state.Sink (what.Sink input) is scans = absurd (false≢true scans)
-scan-operator_state d kind is scans = absurd is
-
--- what a new worker keeps is in order
-pub order-first : (d : OperatorState) (kind : What) (ins : List Upstream) → IsOperatorStateOf d kind → IsInOrder d (is_join kind) 0 ins
-order-first operator_state.Scan kind ins is = tt
-order-first (operator_state.Filter cond) kind ins is = tt
-order-first (operator_state.Project from) kind ins is = tt
-order-first (operator_state.Join state) (what.Join build probe build_keys probe_keys) ins is = (ap (λ (s : Join). s.sealed) is, λ no. absurd (false≢true (sym no)))
-order-first (operator_state.Group state) (what.Group input keys aggs) ins is = let none = is.2.0 in omega arith
-order-first operator_state.Sink kind ins is = tt
-order-first d kind ins is = absurd is
-
 -- ---- the build side
 
 -- what is left at first is of a scan
-pub building-first : (flow : List Operator) (kind : What) (share : List Arrival) → All (λ (one : Arrival). among one.from (builders_in flow kind) ≡ is_join kind) (share_or kind share [])
+pub building-first : (flow : List Operator) (kind : What) (share : List Arrival) → All (λ (one : Arrival). among one.from (builders_in flow kind) ≡ has_build_side kind) (share_or kind share [])
 building-first flow (what.Scan file) share = λ k d less. refl
 building-first flow (what.Filter input cond) share = λ k d less. absurd (omega arith)
 building-first flow (what.Project input from) share = λ k d less. absurd (omega arith)

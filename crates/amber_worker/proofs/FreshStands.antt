@@ -17,7 +17,7 @@ use Rattle.amber_rows.specs.declared.flow.What.{What}
 use Rattle.amber_rows.specs.declared.flow.What.TheVariants as what
 use Rattle.amber_rows.specs.declared.flow.Operator.{Operator}
 use Rattle.amber_log.specs.Grammar.{AreEntries}
-use Rattle.amber_meaning.specs.Plan.{role_of, task_of}
+use Rattle.amber_meaning.specs.Plan.{arrival_columns, role_of, task_of}
 use Rattle.amber_meaning.specs.Position.{all_arrivals, kept, origin, share_or, taken_from}
 use Rattle.amber_meaning.specs.Rules.{Leads}
 use Rattle.amber_meaning.specs.Task.{Role, Task}
@@ -33,17 +33,19 @@ use Rattle.amber_link.specs.declared.downstreams.Downstream.{Downstream}
 use Rattle.amber_link.proofs.Sides.{map-at, map-length}
 use Rattle.amber_worker.specs.Fields.{AreFew}
 use Rattle.amber_worker.specs.Links.{IsSoundRoute}
-use Rattle.amber_worker.specs.Made.{AreFreshSenders, AreNumbered, IsFresh, IsFreshIn, IsFreshOut, IsOperatorStateOf, IsTaskOf, end_of, fresh_fields, fresh_worker, from_of, handing_operator, is_join, link_of, out_of, roomless, to_of}
+use Rattle.amber_worker.specs.Made.{AreFreshSenders, AreNumbered, IsFresh, IsFreshIn, IsFreshOut, IsTaskOf, end_of, fresh_fields, fresh_worker, from_of, has_build_side, link_of, out_of, roomless, to_of}
+use Rattle.amber_operators.specs.States.{IsOperatorStateOf}
 use Rattle.amber_worker.specs.declared.new_worker.WorkerEnds.{WorkerEnds}
 use Rattle.amber_worker.specs.declared.new_worker.WorkerTask.{WorkerTask}
 use Rattle.amber_worker.specs.AtPosition.{HasShare, IsAtPosition, Placement, ReceiveAll, SendAll, Shows, first_context, first_orders, placement_of}
 use Rattle.amber_worker.specs.WorkerState.{WorkerState}
-use Rattle.amber_worker.specs.declared.operator_state.OperatorState.TheVariants as operator_state
+use Rattle.amber_operators.specs.declared.operator_state.OperatorState.TheVariants as operator_state
 use Rattle.amber_link.specs.Sides.{without_room}
 use Rattle.amber_worker.proofs.Roomless.{all-roomless}
 use Rattle.amber_worker.proofs.Sent.{unended}
 use Rattle.amber_worker.proofs.Fresh.{sender-within}
-use Rattle.amber_worker.proofs.FreshParts.{building-first, builders-first, closing-first, columns-arrivals, does-first, has-first, kept-first, order-first, product-first, rest-first, scan-operator_state, scan-senders, side-first}
+use Rattle.amber_worker.proofs.FreshParts.{building-first, builders-first, closing-first, kept-first, product-first, rest-first, scan-senders, side-first}
+use Rattle.amber_operators.proofs.Made.{does-first, has-first, order-first, scan-operator_state}
 
 -- ---- senders
 
@@ -135,7 +137,7 @@ shows-first flow records batch_size worker share w some shared has fresh =
       number = fresh.number;
       operator_state = does-first w.operator_state kind role fresh.does (scan-senders flow worker);
       state = has-first w.operator_state kind task fresh.does;
-      columns = fresh.columns ∙ columns-arrivals flow (op_of flow worker) kind;
+      columns = fresh.columns;
       build_columns = fresh.build_columns;
       sides = λ k d less. (fresh.ins k d less).2 ∙ side-first flow kind (get_or w.ins k d).from (known-at flow worker k w.ins d fresh.senders less);
       builders = λ sender h. builders-first flow worker sender kind refl h;
@@ -172,7 +174,7 @@ fresh-stands flow records batch_size worker share w some shared has fresh = reco
 }
 
 -- what a new worker counts is within its steps
-few-fresh : (kind : What) (flow : List Operator) (batch_size : ℕ) (share : Option ShareState) (task : WorkerTask) (ends : WorkerEnds) → task.building ≡ is_join kind
+few-fresh : (kind : What) (flow : List Operator) (batch_size : ℕ) (share : Option ShareState) (task : WorkerTask) (ends : WorkerEnds) → task.building ≡ has_build_side kind
     → IsOperatorStateOf task.operator_state kind → is_some share ≡ is_scan kind → (is_scan kind ≡ true → ends.ins.items ≡ [])
     → IfSome share (λ one. one.columns ≡ (if task.building then task.build_columns else task.columns)) → AreFreshSenders flow kind ends.ins.items
     → All (λ (one : Downstream). IsFreshOut batch_size one.link) ends.outs.items → IsSoundRoute task.route → AreFew (fresh_fields share task ends)
@@ -252,8 +254,8 @@ made-fresh flow worker batch_size share task ends is numbered outs ins = record 
 }
 
 -- the records of a scan's share are typed by the columns of the rows at hand
-scan-columns : (flow : List Operator) (op : ℕ) (kind : What) (columns built : List Column) (building : Bool) → columns ≡ columns_at flow (handing_operator kind op)
-    → building ≡ is_join kind → is_scan kind ≡ true → columns_at flow op ≡ (if building then built else columns)
+scan-columns : (flow : List Operator) (op : ℕ) (kind : What) (columns built : List Column) (building : Bool) → columns ≡ arrival_columns flow op kind
+    → building ≡ has_build_side kind → is_scan kind ≡ true → columns_at flow op ≡ (if building then built else columns)
 scan-columns flow op (what.Scan file) columns built building is joins scans = rw joins (sym is)
 scan-columns flow op (what.Filter input cond) columns built building is joins scans = absurd (false≢true scans)
 scan-columns flow op (what.Project input from) columns built building is joins scans = absurd (false≢true scans)
@@ -261,8 +263,8 @@ scan-columns flow op (what.Join build probe build_keys probe_keys) columns built
 scan-columns flow op (what.Group input keys aggs) columns built building is joins scans = absurd (false≢true scans)
 scan-columns flow op (what.Sink input) columns built building is joins scans = absurd (false≢true scans)
 
-own-typed : (flow : List Operator) (op : ℕ) (kind : What) (share : Option ShareState) (columns built : List Column) (building : Bool) → columns ≡ columns_at flow (handing_operator kind op)
-    → building ≡ is_join kind → is_some share ≡ is_scan kind → IfSome share (λ one. one.columns ≡ columns_at flow op)
+own-typed : (flow : List Operator) (op : ℕ) (kind : What) (share : Option ShareState) (columns built : List Column) (building : Bool) → columns ≡ arrival_columns flow op kind
+    → building ≡ has_build_side kind → is_some share ≡ is_scan kind → IfSome share (λ one. one.columns ≡ columns_at flow op)
     → IfSome share (λ one. one.columns ≡ (if building then built else columns))
 own-typed flow op kind None columns built building is joins shared typed = tt
 own-typed flow op kind (Some one) columns built building is joins shared typed = typed ∙ scan-columns flow op kind columns built building is joins (sym shared)

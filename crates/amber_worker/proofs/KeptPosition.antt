@@ -5,7 +5,8 @@ use Rattle.amber_rows.specs.declared.flow.What.{What}
 use Rattle.amber_rows.specs.declared.flow.What.TheVariants as what
 use Rattle.amber_meaning.specs.Task.{Arrival, Role, Task, rows_in}
 use Rattle.amber_meaning.specs.Kinds.{keys_refused}
-use Rattle.amber_worker.specs.AtPosition.{DoesKind, IsGivenOf, KeepsRows, KeepsUnder}
+use Rattle.amber_operators.specs.States.{DoesKind, KeepsRows, IsRefused}
+use Rattle.amber_worker.specs.AtPosition.{IsGivenOf, KeepsUnder}
 use Rattle.amber_worker.specs.WorkerState.{WorkerState}
 use Rattle.amber_worker.specs.declared.given.Given.{Given}
 use Rattle.amber_rows.specs.Order.{sort_rows}
@@ -14,9 +15,9 @@ use Rattle.amber_meaning.specs.Given.{worker_refusals}
 use Rattle.amber_meaning.specs.Refused.{refused_groups, refused_in}
 use Rattle.amber_meaning.specs.Views.{by_number, taken_of}
 use Rattle.amber_worker.proofs.Refusals.{refused-numbered}
-use Rattle.amber_worker.specs.Steps.{AreKeysOf, IsRefused}
-use Rattle.amber_worker.specs.declared.operator_state.OperatorState.{OperatorState}
-use Rattle.amber_worker.specs.declared.operator_state.OperatorState.TheVariants as operator_state
+use Rattle.amber_worker.specs.Steps.{AreKeysOf}
+use Rattle.amber_operators.specs.declared.operator_state.OperatorState.{OperatorState}
+use Rattle.amber_operators.specs.declared.operator_state.OperatorState.TheVariants as operator_state
 
 -- a worker that nothing happened to stands where it stood
 pub Keeps-refl : (counted : Bool) (w : WorkerState) → KeepsUnder counted w w

@@ -22,7 +22,6 @@ pub mod Seen
 pub mod Sent
 pub mod Settling
 pub mod Shares
-pub mod States
 pub mod StepFacts
 pub mod Received
 pub mod Takes
@@ -49,11 +48,8 @@ pub mod RowsYielded
 pub mod RowsSent
 pub mod Bridge
 pub mod RowsGone
-pub mod RedoneFates
-pub mod LettingBy
-pub mod ReadiedFacts
 pub mod FewRows
-pub mod Yields
 pub mod LinesTaken
 pub mod LinesRows
 pub mod LinesFed
+pub mod Judged

@@ -1,5 +1,5 @@
 -- What a worker becomes of which the rows of a line were fed to groups, or given to a join.
-use Rattle.std.proofs.Common.{◌≡◌, ◌≢◌, ℕ, ◌+◌, ◌-◌, ◌≤◌, Bool, true, false, cond, if◌then◌else◌, filter, List, [], ◌∷◌, ◌++◌, length, map, take, drop, Option, Some, None, Result, Ok, Err, refl, sym, ap, ◌∙◌, append-nil, arith, subst}
+use Rattle.std.proofs.Common.{◌≡◌, ◌≢◌, ℕ, ◌+◌, ◌-◌, ◌≤◌, ◌^◌, Bool, true, false, cond, if◌then◌else◌, filter, List, [], ◌∷◌, ◌++◌, length, map, take, drop, Option, Some, None, Result, Ok, Err, refl, sym, ap, ◌∙◌, append-nil, arith, subst}
 use Rattle.std.specs.Option.{IfSome}
 use Rattle.std.specs.Result.{IfOk}
 use Rattle.std.proofs.lemmas.Bool.{false≢true}
@@ -15,25 +15,21 @@ use Rattle.amber_meaning.specs.Refused.{refused_in}
 use Rattle.amber_meaning.specs.Task.{Arrival, row_in}
 use Rattle.amber_scan.specs.Shares.{ShareState}
 use Rattle.amber_link.specs.declared.downstreams.Downstream.{Downstream}
-use Rattle.amber_worker.specs.Fields.{arrivals_in, rest_in, row_from}
-use Rattle.amber_worker.specs.RedoneRows.{BecomesTaking, BecomesWith, MayGoFrom, MayGoOn, MayNotGo, Offer, ends_with, kept_by, offered, yielded, yielded_by}
-use Rattle.amber_worker.specs.Steps.{Closes, Feeds, GivesGroups, columns_at_hand, gives_if, is_group, keeps_if}
+use Rattle.amber_link.specs.declared.upstreams.Upstream.{Upstream}
+use Rattle.amber_operators.specs.Handed.{arrivals_in, rest_in, row_from}
+use Rattle.amber_worker.specs.RedoneRows.{BecomesTaking, MayGoFrom, MayGoOn, MayNotGo, Offer, ends_with, offered, yielded}
+use Rattle.amber_operators.specs.ManyRows.{FeedsGroups, BecomesWith, kept_by, yielded_by}
+use Rattle.amber_operators.specs.States.{IsInOrder, Closes, is_group}
+use Rattle.amber_operators.specs.Keeping.{Feeds, GivesGroups}
+use Rattle.amber_worker.specs.Steps.{columns_at_hand}
+use Rattle.amber_operators.specs.RowsTaken.{gives_if, keeps_if}
 use Rattle.amber_worker.specs.WorkerState.{WorkerState}
-use Rattle.amber_worker.specs.declared.operator_state.OperatorState.{OperatorState}
-use Rattle.amber_worker.specs.declared.operator_state.OperatorState.TheVariants as operator_state
-use Rattle.amber_worker.specs.declared.taking_rows.Rest.{Rest}
+use Rattle.amber_operators.specs.declared.operator_state.OperatorState.{OperatorState}
+use Rattle.amber_operators.specs.declared.operator_state.OperatorState.TheVariants as operator_state
+use Rattle.amber_operators.specs.declared.taking_rows.Rest.{Rest}
 use Rattle.amber_worker.specs.declared.redone_rows.RowsLine.{RowsLine}
-use Rattle.amber_worker.proofs.ReadiedFacts.{arrivals-batch, flat-none, rows-refused}
+use Rattle.amber_operators.proofs.ReadiedFacts.{arrivals-batch, flat-none, rows-refused}
 use Rattle.amber_worker.proofs.RowsGone.{given-so}
-
--- no more pass a test than there are
-pub filter-few : {A : Type 0} (test : A → Bool) (xs : List A) → length (filter test xs) ≤ length xs
-filter-few test [] = omega arith
-filter-few test (x ∷ xs) = by (test x) (filter-few test xs)
-  where
-    by : (t : Bool) → length (filter test xs) ≤ length xs → length (cond t (x ∷ filter test xs) (filter test xs)) ≤ length (x ∷ xs)
-    by true few = omega arith
-    by false few = omega arith
 
 -- ---- what was answered
 
@@ -118,9 +114,9 @@ pub no-yield : (state : Group) (builds : Bool) (columns : List Column) (arrivals
 no-yield state builds columns arrivals = flat-none _ (λ one. no-gift state builds (row_in columns one.what)) arrivals
 
 -- what was fed to groups
-pub fed-makes : (line : RowsLine) (w : WorkerState) (old new : Group) (from : ℕ) (batch made : List (List Value)) → w.operator_state ≡ operator_state.Group old → w.rest ≡ map (row_from from) batch
+group-makes : (line : RowsLine) (w : WorkerState) (old new : Group) (from : ℕ) (batch made : List (List Value)) → w.operator_state ≡ operator_state.Group old → w.rest ≡ map (row_from from) batch
     → FeedsEach (filter (suits_of (columns_at_hand w)) (take line.rows batch)) old new → GivesGroups new (ends_with line.rows w) made → Makes line w 0 made (operator_state.Group new)
-fed-makes line w old new from batch made state rest fed closes =
+group-makes line w old new from batch made state rest fed closes =
     let columns = columns_at_hand w in
     let taken : take line.rows w.rest ≡ map (row_from from) (take line.rows batch) = ap (take line.rows) rest ∙ take-map (row_from from) line.rows batch in
     let none : (arrivals : List Arrival) → yielded_by w.operator_state w.building columns arrivals ≡ [] =
@@ -135,6 +131,16 @@ fed-makes line w old new from batch made state rest fed closes =
       refused = ap (λ l. refused_in w.op (take line.rows l)) rest ∙ rows-refused w.op from line.rows batch;
       kept = ap (λ d. kept_by d columns (take line.rows w.rest)) state ∙ flat-none _ (λ one. no-keep old (row_in columns one.what)) (take line.rows w.rest);
     }
+
+pub fed-makes : (line : RowsLine) (w : WorkerState) (now : OperatorState) (from : ℕ) (batch made : List (List Value)) → w.rest ≡ map (row_from from) batch
+    → FeedsGroups (filter (suits_of (columns_at_hand w)) (take line.rows batch)) w.operator_state now → Closes now (ends_with line.rows w) made → Makes line w 0 made now
+fed-makes line w now from batch made rest feeds closes =
+    subst (Makes line w 0 made) (sym feeds.now)
+    (group-makes line w feeds.before feeds.after from batch made feeds.was rest feeds.each (subst (λ d. Closes d (ends_with line.rows w) made) feeds.now closes))
+
+-- as few rows more may be fed
+pub few-fed : (building : Bool) (taken n : ℕ) (ins : List Upstream) (d : OperatorState) (state : Group) → d ≡ operator_state.Group state → IsInOrder d building taken ins → taken + n ≤ 2 ^ 40 → state.fed + n ≤ 2 ^ 40
+few-fed building taken n ins d state is order small = let fed : state.fed ≤ taken = subst (λ d. IsInOrder d building taken ins) is order in omega (arith, fed, small)
 
 -- ---- the fields of a worker
 

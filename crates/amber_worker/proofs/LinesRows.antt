@@ -19,11 +19,12 @@ use Rattle.amber_link.proofs.Sides.{looked-same, pairwise-refl}
 use Rattle.amber_worker.specs.AtPosition.{Context, Shows}
 use Rattle.amber_worker.specs.Links.{number_to}
 use Rattle.amber_worker.specs.Redoing.{CannotRedo, HasRedone, LogLine, NeverMeets, Redoes, StandsAfterLine, before_line, hand_before, log_line, with_hand}
-use Rattle.amber_worker.specs.RedoneRows.{AreHandedOn, BecomesWith, GoesOrNot, MayNotGo, TakesLine, rows_gone}
+use Rattle.amber_worker.specs.RedoneRows.{AreHandedOn, GoesOrNot, MayNotGo, TakesLine, rows_gone}
+use Rattle.amber_operators.specs.ManyRows.{BecomesWith}
 use Rattle.amber_worker.specs.Steps.{columns_at_hand}
-use Rattle.amber_worker.specs.Turning.{constants_in}
+use Rattle.amber_operators.specs.States.{constants_in}
 use Rattle.amber_worker.specs.WorkerState.{IsUnrestrained, WorkerState, stands_still}
-use Rattle.amber_worker.specs.declared.operator_state.OperatorState.{OperatorState}
+use Rattle.amber_operators.specs.declared.operator_state.OperatorState.{OperatorState}
 use Rattle.amber_worker.specs.declared.redoing.Armed.{Armed}
 use Rattle.amber_worker.specs.declared.redone_rows.RowsLine.{RowsLine}
 use Rattle.amber_worker.specs.declared.route.Route.{Route}

@@ -11,21 +11,24 @@ use Rattle.amber_meaning.specs.Task.{Arrival, row_in}
 use Rattle.amber_meaning.specs.declared.answer.Refusal.{Refusal}
 use Rattle.amber_link.specs.declared.downstreams.Downstream.{Downstream}
 use Rattle.amber_worker.specs.Emitting.{EmitsMany}
-use Rattle.amber_worker.specs.Fields.{arrivals_in}
+use Rattle.amber_operators.specs.Handed.{arrivals_in}
 use Rattle.amber_worker.specs.Links.{IsHandedOn, OutputSide, number_to}
-use Rattle.amber_worker.specs.ReadiedRows.{AreReadied, FeedsReadied, IsUnfed, Reading, StandingBy, keeps_still, offer_to}
-use Rattle.amber_worker.specs.RedoneRows.{AreHandedOn, BecomesTaking, BecomesWith, MayGoFrom, MayGoOn, MayNotGo, TakesLine, ends_with, kept_by, offered, yielded}
-use Rattle.amber_worker.specs.Steps.{Becomes, Closes, built_with, columns_at_hand, is_group}
+use Rattle.amber_operators.specs.ReadiedRows.{AreReadied, FeedsReadied, IsUnfed, Reading}
+use Rattle.amber_worker.specs.RedoneRows.{StandingBy, offer_to, AreHandedOn, BecomesTaking, MayGoFrom, MayGoOn, MayNotGo, TakesLine, ends_with, offered, yielded}
+use Rattle.amber_operators.specs.States.{keeps_still, Becomes, Closes, is_group}
+use Rattle.amber_operators.specs.ManyRows.{BecomesWith, kept_by}
+use Rattle.amber_operators.specs.Keeping.{built_with}
+use Rattle.amber_worker.specs.Steps.{columns_at_hand}
 use Rattle.amber_worker.specs.WorkerState.{WorkerState}
-use Rattle.amber_worker.specs.declared.operator_state.OperatorState.{OperatorState}
-use Rattle.amber_worker.specs.declared.operator_state.OperatorState.TheVariants as operator_state
-use Rattle.amber_worker.specs.declared.readied_rows.ReadiedRows.{ReadiedRows}
-use Rattle.amber_worker.specs.declared.readied_rows.ReadiedRows.TheVariants as readied_rows
+use Rattle.amber_operators.specs.declared.operator_state.OperatorState.{OperatorState}
+use Rattle.amber_operators.specs.declared.operator_state.OperatorState.TheVariants as operator_state
+use Rattle.amber_operators.specs.declared.readied_rows.ReadiedRows.{ReadiedRows}
+use Rattle.amber_operators.specs.declared.readied_rows.ReadiedRows.TheVariants as readied_rows
 use Rattle.amber_worker.specs.declared.redone_rows.RowsLine.{RowsLine}
 use Rattle.amber_worker.specs.declared.route.Route.{Route}
-use Rattle.amber_worker.specs.declared.taking_rows.Rest.{Rest}
-use Rattle.amber_worker.proofs.Produced.{left-next, take-next}
-use Rattle.amber_worker.proofs.ReadiedFacts.{plain-still}
+use Rattle.amber_operators.specs.declared.taking_rows.Rest.{Rest}
+use Rattle.amber_operators.proofs.Lists.{left-next, take-next}
+use Rattle.amber_operators.proofs.ReadiedFacts.{plain-still}
 
 -- ---- a worker that keeps no groups
 

@@ -20,14 +20,17 @@ use Rattle.amber_meaning.specs.Views.{taken_of}
 use Rattle.amber_link.specs.Sides.{have_all_ended}
 use Rattle.amber_link.specs.declared.upstreams.Upstream.{Upstream}
 use Rattle.amber_worker.specs.Fields.{rows_moved}
-use Rattle.amber_worker.specs.AtPosition.{Context, DoesKind, KeepsRows, KeepsUnder, ReceiveAll, Shows}
+use Rattle.amber_worker.specs.AtPosition.{Context, KeepsUnder, ReceiveAll, Shows}
+use Rattle.amber_operators.specs.States.{DoesKind, KeepsRows, Becomes, Closes, row_yield, keeps}
 use Rattle.amber_worker.specs.WorkerState.{WorkerState}
-use Rattle.amber_worker.specs.Steps.{Becomes, Closes, columns_at_hand, row_yield, gives_if, keeps, keeps_if, row_taken}
-use Rattle.amber_worker.specs.declared.operator_state.OperatorState.{OperatorState}
-use Rattle.amber_worker.specs.declared.operator_state.OperatorState.TheVariants as operator_state
+use Rattle.amber_worker.specs.Steps.{columns_at_hand, row_taken}
+use Rattle.amber_operators.specs.RowsTaken.{gives_if, keeps_if}
+use Rattle.amber_operators.specs.declared.operator_state.OperatorState.{OperatorState}
+use Rattle.amber_operators.specs.declared.operator_state.OperatorState.TheVariants as operator_state
 use Rattle.amber_worker.proofs.Journals.{AreEntries-with_go, Leads-go}
-use Rattle.amber_worker.proofs.Produced.{and-turned, kept-longer, left-behind, left-next, left-nothing, left-within, not-complete, produce-next, product-is, product-open, same-test, take-next}
-use Rattle.amber_worker.proofs.States.{closing-is, does-more, has-more, rows-more}
+use Rattle.amber_worker.proofs.Produced.{and-turned, kept-longer, left-behind, left-nothing, left-within, not-complete, produce-next, product-is, product-open, same-test}
+use Rattle.amber_operators.proofs.Lists.{left-next, take-next}
+use Rattle.amber_operators.proofs.States.{closing-is, does-more, has-more, rows-more}
 
 -- a worker that has not finished; it is neither paused nor held
 pub record IsWorking (w : WorkerState) : Type 0 where

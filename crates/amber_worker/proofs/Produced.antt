@@ -1,5 +1,5 @@
 -- What a worker has produced, a row more and a batch more.
-use Rattle.std.proofs.Common.{◌≡◌, ℕ, zero, suc, ◌+◌, ◌<◌, ◌≤◌, eqb, ◌&&◌, sym, ◌∙◌, List, [], ◌∷◌, ◌++◌, length, take, drop, Bool, true, false, if◌then◌else◌, refl, ap, arith, add-one, append_assoc, length-drop}
+use Rattle.std.proofs.Common.{◌≡◌, ℕ, ◌+◌, ◌<◌, ◌≤◌, eqb, ◌&&◌, sym, ◌∙◌, List, [], ◌∷◌, ◌++◌, length, take, drop, Bool, true, false, if◌then◌else◌, refl, ap, arith, append_assoc, length-drop}
 use Rattle.std.proofs.lemmas.Bool.{eq-eqb, eqb-true, false≢true}
 use Rattle.std.proofs.lemmas.List.{append-nil}
 use Rattle.amber_rows.specs.declared.value.Value.{Value}
@@ -8,25 +8,6 @@ use Rattle.amber_meaning.specs.Task.{Arrival, Role, Task}
 use Rattle.amber_meaning.specs.Produce.{closing, produce, yields}
 
 -- ---- a list that is left from a place on
-
-left-suc : {A : Type 0} (n : ℕ) (xs : List A) (y : A) (ys : List A) → drop n xs ≡ y ∷ ys → drop (suc n) xs ≡ ys
-left-suc zero [] y ys e = cc
-left-suc zero (x ∷ xs) y ys e = cc
-left-suc (suc n) [] y ys e = cc
-left-suc (suc n) (x ∷ xs) y ys e = left-suc n xs y ys e
-
-take-suc : {A : Type 0} (n : ℕ) (xs : List A) (y : A) (ys : List A) → drop n xs ≡ y ∷ ys → take (suc n) xs ≡ take n xs ++ y ∷ []
-take-suc zero [] y ys e = cc
-take-suc zero (x ∷ xs) y ys e = cc
-take-suc (suc n) [] y ys e = cc
-take-suc (suc n) (x ∷ xs) y ys e = ap (λ l. x ∷ l) (take-suc n xs y ys e)
-
--- what is left after the first of what is left
-pub left-next : {A : Type 0} (n : ℕ) (xs : List A) (y : A) (ys : List A) → drop n xs ≡ y ∷ ys → drop (n + 1) xs ≡ ys
-left-next n xs y ys e = rw add-one (left-suc n xs y ys e)
-
-pub take-next : {A : Type 0} (n : ℕ) (xs : List A) (y : A) (ys : List A) → drop n xs ≡ y ∷ ys → take (n + 1) xs ≡ take n xs ++ y ∷ []
-take-next n xs y ys e = rw add-one (take-suc n xs y ys e)
 
 -- something is left, so the place is within the list
 pub left-within : {A : Type 0} (n : ℕ) (xs : List A) (y : A) (ys : List A) → drop n xs ≡ y ∷ ys → n + 1 ≤ length xs

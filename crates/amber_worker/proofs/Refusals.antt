@@ -9,7 +9,7 @@ use Rattle.amber_meaning.specs.Refused.{refusal_in, refused_in}
 use Rattle.amber_meaning.specs.Task.{Arrival, Role}
 use Rattle.amber_meaning.specs.Views.{by_number, insert_numbered, taken_of}
 use Rattle.amber_worker.specs.AtPosition.{IsNumbered}
-use Rattle.amber_worker.specs.Fields.{row_from}
+use Rattle.amber_operators.specs.Handed.{row_from}
 
 left-none : {A : Type 0} (xs ys : List A) → xs ++ ys ≡ [] → xs ≡ []
 left-none [] ys h = refl

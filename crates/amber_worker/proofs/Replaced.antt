@@ -10,11 +10,12 @@ use Rattle.amber_link.specs.declared.upstreams.Upstream.{Upstream}
 use Rattle.amber_link.proofs.SameEnds.{receivers-same, senders-same}
 use Rattle.amber_link.proofs.Sides.{pairwise-at, pairwise-length}
 use Rattle.amber_worker.specs.AtPosition.{HasSameEnds, ReceiveAll}
-use Rattle.amber_worker.specs.Fields.{AreFew, IsInOrder, WorkerFields}
+use Rattle.amber_worker.specs.Fields.{AreFew, WorkerFields}
+use Rattle.amber_operators.specs.States.{IsInOrder}
 use Rattle.amber_worker.specs.Replacing.{ShowsReplaced, StandAlike, StandsReplaced, with_links_of}
 use Rattle.amber_worker.specs.WorkerState.{WorkerState}
-use Rattle.amber_worker.specs.declared.operator_state.OperatorState.{OperatorState}
-use Rattle.amber_worker.specs.declared.operator_state.OperatorState.TheVariants as operator_state
+use Rattle.amber_operators.specs.declared.operator_state.OperatorState.{OperatorState}
+use Rattle.amber_operators.specs.declared.operator_state.OperatorState.TheVariants as operator_state
 
 -- ---- what is kept of the senders
 

@@ -14,15 +14,18 @@ use Rattle.amber_meaning.specs.Rules.{product_with, restraint_used, with_rows}
 use Rattle.amber_meaning.specs.Task.{Arrival, Role, Task, columns_from, is_builder, row_in, rows_in, suiting}
 use Rattle.amber_meaning.specs.Views.{taken_of}
 use Rattle.amber_link.specs.declared.downstreams.Downstream.{Downstream}
-use Rattle.amber_worker.specs.AtPosition.{Context, DoesKind, KeepsRows, SendAll, Shows, output_at}
-use Rattle.amber_worker.specs.RedoneRows.{AreHandedOn, BecomesTaking, IsGivenLast, MayGoFrom, ends_with, kept_by, rows_gone, yielded}
-use Rattle.amber_worker.specs.Steps.{Closes, columns_at_hand, keeps, keeps_if}
+use Rattle.amber_worker.specs.AtPosition.{Context, SendAll, Shows, output_at}
+use Rattle.amber_operators.specs.States.{DoesKind, KeepsRows, Closes, keeps}
+use Rattle.amber_worker.specs.RedoneRows.{AreHandedOn, BecomesTaking, IsGivenLast, MayGoFrom, ends_with, rows_gone, yielded}
+use Rattle.amber_operators.specs.ManyRows.{kept_by}
+use Rattle.amber_worker.specs.Steps.{columns_at_hand}
+use Rattle.amber_operators.specs.RowsTaken.{keeps_if}
 use Rattle.amber_worker.specs.WorkerState.{WorkerState}
-use Rattle.amber_worker.specs.declared.operator_state.OperatorState.{OperatorState}
-use Rattle.amber_worker.specs.declared.operator_state.OperatorState.TheVariants as operator_state
+use Rattle.amber_operators.specs.declared.operator_state.OperatorState.{OperatorState}
+use Rattle.amber_operators.specs.declared.operator_state.OperatorState.TheVariants as operator_state
 use Rattle.amber_worker.specs.declared.redone_rows.RowsLine.{RowsLine}
 use Rattle.amber_worker.proofs.Produced.{kept-longer}
-use Rattle.amber_worker.proofs.ReadiedFacts.{flat-none}
+use Rattle.amber_operators.proofs.ReadiedFacts.{flat-none}
 use Rattle.amber_worker.proofs.RowsSent.{emitted-rows, kept-rows, send_all-rows}
 use Rattle.amber_worker.proofs.RowsYielded.{AreOfSide, does-taking, has-taking, made-length, of-side, pending-length, pending-more, produced-more, rest-length, taken-more}
 use Rattle.amber_worker.proofs.Sent.{unended}

@@ -10,7 +10,8 @@ use Rattle.amber_worker.specs.AtPosition.{Placement, SendAll}
 use Rattle.amber_worker.specs.Links.{number_to}
 use Rattle.amber_worker.specs.RedoneRows.{AreHandedOn}
 use Rattle.amber_worker.specs.declared.route.Route.{Route}
-use Rattle.amber_worker.proofs.Produced.{kept-next, left-next}
+use Rattle.amber_worker.proofs.Produced.{kept-next}
+use Rattle.amber_operators.proofs.Lists.{left-next}
 use Rattle.amber_worker.proofs.Sent.{send_all-row, unended}
 
 -- these rows go to the receivers with their numbers

@@ -15,15 +15,20 @@ use Rattle.amber_meaning.specs.Rules.{produced_with, product_with}
 use Rattle.amber_meaning.specs.Task.{Arrival, Role, Task, built_of, columns_from, is_builder, row_in, suiting}
 use Rattle.amber_meaning.specs.Views.{taken_of}
 use Rattle.amber_link.specs.Sides.{have_all_ended}
-use Rattle.amber_worker.specs.AtPosition.{Context, DoesKind, KeepsRows, Shows}
-use Rattle.amber_worker.specs.RedoneRows.{BecomesTaking, BecomesWith, IsGivenLast, ends_with, yielded, yielded_by}
-use Rattle.amber_worker.specs.Steps.{Becomes, built_with, columns_at_hand, gives_if, row_yield}
+use Rattle.amber_worker.specs.AtPosition.{Context, Shows}
+use Rattle.amber_operators.specs.States.{DoesKind, KeepsRows, Becomes, row_yield}
+use Rattle.amber_worker.specs.RedoneRows.{BecomesTaking, IsGivenLast, ends_with, yielded}
+use Rattle.amber_operators.specs.ManyRows.{BecomesWith, yielded_by}
+use Rattle.amber_operators.specs.Keeping.{built_with}
+use Rattle.amber_worker.specs.Steps.{columns_at_hand}
+use Rattle.amber_operators.specs.RowsTaken.{gives_if}
 use Rattle.amber_worker.specs.WorkerState.{WorkerState}
-use Rattle.amber_worker.specs.declared.operator_state.OperatorState.{OperatorState}
-use Rattle.amber_worker.specs.declared.operator_state.OperatorState.TheVariants as operator_state
+use Rattle.amber_operators.specs.declared.operator_state.OperatorState.{OperatorState}
+use Rattle.amber_operators.specs.declared.operator_state.OperatorState.TheVariants as operator_state
 use Rattle.amber_worker.proofs.Moves.{all-ended}
-use Rattle.amber_worker.proofs.Produced.{and-turned, left-next, not-complete, produce-next, product-is, product-open, same-test, take-next}
-use Rattle.amber_worker.proofs.States.{closing-is, does-more, has-more}
+use Rattle.amber_worker.proofs.Produced.{and-turned, not-complete, produce-next, product-is, product-open, same-test}
+use Rattle.amber_operators.proofs.Lists.{left-next, take-next}
+use Rattle.amber_operators.proofs.States.{closing-is, does-more, has-more}
 
 -- ---- what a row yields, of the build side or not
 

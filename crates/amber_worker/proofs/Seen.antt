@@ -13,11 +13,12 @@ use Rattle.amber_meaning.specs.declared.answer.Refusal.{Refusal}
 use Rattle.amber_meaning.specs.declared.view.Extra.{Extra}
 use Rattle.amber_meaning.specs.declared.view.Extra.TheVariants as extra
 use Rattle.amber_meaning.specs.declared.view.WorkerView.{WorkerView}
-use Rattle.amber_worker.specs.AtPosition.{DoesKind, IsViewOf, KeepsRows}
+use Rattle.amber_operators.specs.States.{DoesKind, KeepsRows, IsExtra}
+use Rattle.amber_worker.specs.AtPosition.{IsViewOf}
 use Rattle.amber_worker.specs.WorkerState.{WorkerState}
-use Rattle.amber_worker.specs.Steps.{IsExtra, IsShown}
-use Rattle.amber_worker.specs.declared.operator_state.OperatorState.{OperatorState}
-use Rattle.amber_worker.specs.declared.operator_state.OperatorState.TheVariants as operator_state
+use Rattle.amber_worker.specs.Steps.{IsShown}
+use Rattle.amber_operators.specs.declared.operator_state.OperatorState.{OperatorState}
+use Rattle.amber_operators.specs.declared.operator_state.OperatorState.TheVariants as operator_state
 
 -- as many refusals, whichever operator they are named for
 length-refused : (a b : ℕ) (arrivals : List Arrival) → length (refused_in a arrivals) ≡ length (refused_in b arrivals)

@@ -11,13 +11,14 @@ use Rattle.amber_rows.specs.declared.value.Value.{Value}
 use Rattle.amber_worker.specs.Acting.{Acts, DealsAt, dealing_under, paused_at}
 use Rattle.amber_worker.specs.AtPosition.{IsLookedAt}
 use Rattle.amber_worker.specs.Counting.{Claims, CountsOne, GivesBack, IsSameSeat, mine_in}
-use Rattle.amber_worker.specs.Steps.{Becomes, held_at, turned_to}
-use Rattle.amber_worker.specs.Turning.{HasTurned, MakesStep, TurnsUnder, constants_in}
+use Rattle.amber_operators.specs.States.{Becomes, turned_to, constants_in}
+use Rattle.amber_worker.specs.Steps.{held_at}
+use Rattle.amber_worker.specs.Turning.{HasTurned, MakesStep, TurnsUnder}
 use Rattle.amber_worker.specs.WorkerState.{WorkerState, is_armed, steps_made}
 use Rattle.amber_worker.specs.declared.counting.Dealing.{Dealing}
 use Rattle.amber_worker.specs.declared.counting.Dealing.TheVariants as dealing
-use Rattle.amber_worker.specs.declared.operator_state.OperatorState.{OperatorState}
-use Rattle.amber_worker.specs.declared.operator_state.OperatorState.TheVariants as operator_state
+use Rattle.amber_operators.specs.declared.operator_state.OperatorState.{OperatorState}
+use Rattle.amber_operators.specs.declared.operator_state.OperatorState.TheVariants as operator_state
 use Rattle.amber_worker.specs.declared.turn.Turn.{Turn}
 use Rattle.amber_worker.specs.declared.turn.Turn.TheVariants as turn
 use Rattle.amber_worker.proofs.Dealt.{is-dealt}

@@ -10,7 +10,7 @@ use Rattle.amber_rows.specs.Shares.{share_of, turn_of, with_numbers}
 use Rattle.amber_meaning.specs.Task.{Arrival}
 use Rattle.amber_meaning.specs.Views.{by_number, insert_numbered}
 use Rattle.amber_scan.specs.declared.share.Scanned.{Scanned}
-use Rattle.amber_worker.specs.Fields.{arrival_of}
+use Rattle.amber_operators.specs.Handed.{arrival_of}
 
 -- records whose numbers rise, from this one on
 abbrev Rise : ℕ → List Arrival → Type 0

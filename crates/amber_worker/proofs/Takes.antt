@@ -20,17 +20,18 @@ use Rattle.amber_meaning.specs.Views.{taken_of}
 use Rattle.amber_link.specs.Sides.{AreLooked, IsTaken, have_all_ended, have_builders_ended}
 use Rattle.amber_worker.proofs.Settling.{Shows-relinked}
 use Rattle.amber_link.specs.declared.upstreams.Upstream.{Upstream}
-use Rattle.amber_worker.specs.Fields.{row_from}
-use Rattle.amber_worker.specs.AtPosition.{Context, DoesKind, IsAtPosition, KeepsUnder, ReceiveAll, Shows}
+use Rattle.amber_operators.specs.Handed.{row_from}
+use Rattle.amber_worker.specs.AtPosition.{Context, IsAtPosition, KeepsUnder, ReceiveAll, Shows}
+use Rattle.amber_operators.specs.States.{DoesKind, Closes}
 use Rattle.amber_worker.specs.WorkerState.{WorkerState}
-use Rattle.amber_worker.specs.Steps.{Closes, batch_taken}
-use Rattle.amber_worker.specs.declared.operator_state.OperatorState.{OperatorState}
-use Rattle.amber_worker.specs.declared.operator_state.OperatorState.TheVariants as operator_state
+use Rattle.amber_worker.specs.Steps.{batch_taken}
+use Rattle.amber_operators.specs.declared.operator_state.OperatorState.{OperatorState}
+use Rattle.amber_operators.specs.declared.operator_state.OperatorState.TheVariants as operator_state
 use Rattle.amber_meaning.proofs.Led.{Leads-push}
 use Rattle.amber_worker.proofs.Journals.{AreEntries-push}
 use Rattle.amber_worker.proofs.Moves.{IsWorking, all-ended, all-gone, closing-same, free-shown}
 use Rattle.amber_worker.proofs.Produced.{and-turned, kept-longer, left-behind, left-nothing, produce-longer, product-is, product-open, same-test}
-use Rattle.amber_worker.proofs.States.{closing-is, does-turned, has-turned}
+use Rattle.amber_operators.proofs.States.{closing-is, does-turned, has-turned}
 use Rattle.amber_worker.proofs.Received.{as_taken, is-received, is-sender, receive_all-looked, receive_all-next, sides-looked}
 
 -- ---- what was handed

@@ -11,8 +11,8 @@ use Rattle.amber_log.specs.declared.entry.Entry.{Entry}
 use Rattle.amber_link.specs.declared.downstreams.Downstream.{Downstream}
 use Rattle.amber_worker.specs.WorkerState.{WorkerState, steps_made}
 use Rattle.amber_worker.specs.Fields.{AreFew, WorkerFields, rows_moved}
-use Rattle.amber_worker.specs.declared.operator_state.OperatorState.{OperatorState}
-use Rattle.amber_worker.specs.declared.operator_state.OperatorState.TheVariants as operator_state
+use Rattle.amber_operators.specs.declared.operator_state.OperatorState.{OperatorState}
+use Rattle.amber_operators.specs.declared.operator_state.OperatorState.TheVariants as operator_state
 use Rattle.amber_worker.proofs.Bounds.{same-some}
 
 pub err_so : {T E : Type 0} (r : Result T E) (P : Type 0) → P → OnErr r P

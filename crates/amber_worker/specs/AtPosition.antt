@@ -7,17 +7,13 @@ use Rattle.amber_rows.specs.Order.{sort_rows}
 use Rattle.amber_rows.specs.declared.value.Value.{Value}
 use Rattle.amber_rows.specs.declared.batch.Batch.{Batch}
 use Rattle.amber_rows.specs.declared.record.RowFault.{RowFault}
-use Rattle.amber_rows.specs.declared.flow.What.{What}
-use Rattle.amber_rows.specs.declared.flow.What.TheVariants as what
 use Rattle.amber_rows.specs.declared.flow.Operator.{Operator}
 use Rattle.amber_log.specs.Grammar.{AreEntries}
-use Rattle.amber_group.specs.Group.{IsFedWith}
 use Rattle.amber_meaning.specs.Plan.{role_of}
 use Rattle.amber_meaning.specs.Position.{Position, Taken, emitted_count, emitted_rows, all_arrivals, has_last, pending_rows, produced_rows, rest_of, taken_from}
 use Rattle.amber_meaning.specs.Rules.{Leads, Orders, assigned}
 use Rattle.amber_meaning.specs.State.{first_constants}
-use Rattle.amber_meaning.specs.Task.{Arrival, Role, Task, built_of, is_builder, rows_in}
-use Rattle.amber_meaning.specs.Kinds.Filter.{with_constant}
+use Rattle.amber_meaning.specs.Task.{Role, is_builder}
 use Rattle.amber_meaning.specs.Refused.{refused_in}
 use Rattle.amber_meaning.specs.Given.{worker_refusals}
 use Rattle.amber_meaning.specs.Views.{by_number, taken_of, view_of}
@@ -27,12 +23,11 @@ use Rattle.amber_link.specs.Links.{HasGiven, OutCarries}
 use Rattle.amber_link.specs.Sides.{AreLooked, AreSameReceivers, AreSameSenders}
 use Rattle.amber_link.specs.declared.upstreams.Upstream.{Upstream}
 use Rattle.amber_link.specs.declared.downstreams.Downstream.{Downstream}
-use Rattle.amber_worker.specs.Fields.{arrival_of}
+use Rattle.amber_operators.specs.Handed.{arrival_of}
 use Rattle.amber_worker.specs.Links.{number_to}
 use Rattle.amber_worker.specs.WorkerState.{WorkerState}
-use Rattle.amber_worker.specs.declared.operator_state.OperatorState.{OperatorState}
-use Rattle.amber_worker.specs.declared.operator_state.OperatorState.TheVariants as operator_state
 use Rattle.amber_worker.specs.declared.given.Given.{Given}
+use Rattle.amber_operators.specs.States.{DoesKind, KeepsRows}
 
 -- ---- a worker's place in a run
 
@@ -66,25 +61,6 @@ HasShare None role = Unit {0}
 HasShare (Some share) role = map arrival_of share.left ≡ role.share
 
 -- ---- the parts of a worker
-
--- what a worker does is what its role says, under these constants
-abbrev pub DoesKind : OperatorState → What → List Value → Role → Type 0
-DoesKind operator_state.Scan (what.Scan file) constants role = role.senders ≡ []
-DoesKind (operator_state.Filter cond) (what.Filter input own) constants role = cond ≡ with_constant own constants
-DoesKind (operator_state.Project from) (what.Project input columns) constants role = from ≡ columns
-DoesKind (operator_state.Join state) (what.Join build probe build_keys probe_keys) constants role = (state.build_keys ≡ build_keys) × (state.probe_keys ≡ probe_keys)
-DoesKind (operator_state.Group state) (what.Group input keys aggs) constants role = (state.keys ≡ keys) × (state.aggs ≡ aggs)
-DoesKind operator_state.Sink (what.Sink input) constants role = Unit {0}
-DoesKind _ _ constants role = ⊥
-
--- what a worker keeps of the rows that it took: of a join the build side, of a group what its rows stand for
-abbrev pub KeepsRows : OperatorState → Task → List Arrival → Type 0
-KeepsRows operator_state.Scan task arrivals = Unit {0}
-KeepsRows (operator_state.Filter cond) task arrivals = Unit {0}
-KeepsRows (operator_state.Project from) task arrivals = Unit {0}
-KeepsRows (operator_state.Join state) task arrivals = state.rows ≡ built_of task arrivals
-KeepsRows (operator_state.Group state) task arrivals = IsFedWith state (rows_in task arrivals)
-KeepsRows operator_state.Sink task arrivals = Unit {0}
 
 -- the batches that went through earlier links: by the number of the sender those that had come, by that of the receiver those that
 -- were sent

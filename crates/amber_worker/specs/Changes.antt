@@ -13,22 +13,11 @@ use Rattle.amber_worker.specs.AtPosition.{Context, HasShare, IsAtPosition, Shows
 use Rattle.amber_worker.specs.Counting.{hand_in, with_back, with_grant}
 use Rattle.amber_worker.specs.Made.{NewWorker}
 use Rattle.amber_worker.specs.WorkerState.{WorkerState}
-use Rattle.amber_worker.specs.declared.operator_state.OperatorState.{OperatorState}
-use Rattle.amber_worker.specs.declared.operator_state.OperatorState.TheVariants as operator_state
 
 -- a new worker stands at the beginning, where its share is that of some records
 unfoldable pub StandsNew : NewWorker → WorkerState → Type 0
 StandsNew new made = (records : List (List (Result (List Value) RowFault))) → HasShare new.share (role_of new.flow records new.number)
     → IsAtPosition (first_context new.flow records new.batch_size new.number) made origin origin
-
--- a filter with another constant
-abbrev pub with_value : Value → OperatorState → OperatorState
-with_value value operator_state.Scan = operator_state.Scan
-with_value value (operator_state.Filter cond) = operator_state.Filter (record cond { constant = value })
-with_value value (operator_state.Project from) = operator_state.Project from
-with_value value (operator_state.Join state) = operator_state.Join state
-with_value value (operator_state.Group state) = operator_state.Group state
-with_value value operator_state.Sink = operator_state.Sink
 
 -- what it shows under any orders it shows under those with this constant
 unfoldable pub ShowsSet : Value → WorkerState → WorkerState → Type 0

@@ -1,35 +1,17 @@
 -- What a worker's fields mean.
-use Rattle.std.specs.Prelude.{◌≡◌, ℕ, not, false, true, ◌+◌, ◌^◌, ◌<◌, ◌≤◌, All, List, [], map, IfSome, Option, Some, None, Ok, Bool}
-use Rattle.amber_rows.specs.declared.value.Value.{Value}
+use Rattle.std.specs.Prelude.{◌≡◌, ℕ, false, true, ◌+◌, ◌^◌, ◌<◌, ◌≤◌, All, List, [], IfSome, Option, Bool}
 use Rattle.amber_rows.specs.declared.column.Column.{Column}
 use Rattle.amber_log.specs.declared.entry.Entry.{Entry}
 use Rattle.amber_log.specs.declared.entry.Entry.TheVariants as entry
 use Rattle.amber_meaning.specs.Position.{Restraint, one_if}
-use Rattle.amber_meaning.specs.Task.{Arrival}
 use Rattle.amber_scan.specs.Shares.{ShareState}
-use Rattle.amber_scan.specs.declared.share.Scanned.{Scanned}
-use Rattle.amber_link.specs.Sides.{have_builders_ended}
 use Rattle.amber_link.specs.declared.upstreams.Upstream.{Upstream}
 use Rattle.amber_link.specs.declared.downstreams.Downstream.{Downstream}
-use Rattle.amber_worker.specs.declared.operator_state.OperatorState.{OperatorState}
-use Rattle.amber_worker.specs.declared.operator_state.OperatorState.TheVariants as operator_state
+use Rattle.amber_operators.specs.declared.operator_state.OperatorState.{OperatorState}
 use Rattle.amber_worker.specs.Links.{IsSoundRoute}
 use Rattle.amber_worker.specs.declared.flags.Flags.{Flags}
 use Rattle.amber_worker.specs.declared.route.Route.{Route}
-use Rattle.amber_worker.specs.declared.taking_rows.Rest.{Rest}
-
--- a row as it was handed by a sender
-abbrev pub row_from : ℕ → List Value → Arrival
-row_from sender row = record { from = sender; what = Ok row }
-
--- a record of a scan's share as what is handed
-abbrev pub arrival_of : Scanned → Arrival
-arrival_of one = record { from = one.number; what = one.what }
-
--- what is left: of a scan's share, or of the rows that a sender gave
-abbrev pub rest_in : Option ShareState → ℕ → List (List Value) → List Arrival
-rest_in None sender rows = map (row_from sender) rows
-rest_in (Some share) sender rows = map arrival_of share.left
+use Rattle.amber_operators.specs.States.{IsScan, IsInOrder}
 
 -- the rows that an entry takes and emits
 abbrev pub rows_moved : Entry → ℕ
@@ -45,16 +27,6 @@ rows_moved entry.Finish = 0
 -- no entry speaks of very many rows
 abbrev pub AreShort : List Entry → Type 0
 AreShort journal = All (λ one. rows_moved one < 2 ^ 63) journal
-
--- what is kept of a join is sealed once the batches at hand are of the probe side, and then the build side has ended; a group was
--- fed no more rows than were taken
-abbrev pub IsInOrder : OperatorState → Bool → ℕ → List Upstream → Type 0
-IsInOrder operator_state.Scan building taken ins = Unit {0}
-IsInOrder (operator_state.Filter cond) building taken ins = Unit {0}
-IsInOrder (operator_state.Project from) building taken ins = Unit {0}
-IsInOrder (operator_state.Join state) building taken ins = (state.sealed ≡ not building) × (building ≡ false → have_builders_ended ins ≡ true)
-IsInOrder (operator_state.Group state) building taken ins = state.fed ≤ taken
-IsInOrder operator_state.Sink building taken ins = Unit {0}
 
 -- no flag is raised
 abbrev pub no_flags : Flags
@@ -84,7 +56,7 @@ pub record WorkerFields : Type 0 where
 -- and has no senders, and its records are typed by these columns
 pub record AreFew (f : WorkerFields) : Type 0 where
   pub in_order : IsInOrder f.operator_state f.building f.taken f.ins
-  pub scans : IfSome f.share (λ _. f.operator_state ≡ operator_state.Scan)
+  pub scans : IfSome f.share (λ _. IsScan f.operator_state)
   pub shares : IfSome f.share (λ _. f.ins ≡ [])
   pub typed : IfSome f.share (λ share. share.columns ≡ f.columns)
   pub steps : f.taken + f.emitted + f.batches + one_if f.finished ≤ 2 ^ 40
@@ -94,6 +66,3 @@ pub record AreFew (f : WorkerFields) : Type 0 where
   pub over : All (λ one. one.link.kept.ended ≡ f.finished) f.outs
   pub routed : IsSoundRoute f.route
   pub moved : All (λ one. rows_moved one ≤ f.taken + f.emitted) f.journal
-
-abbrev pub arrivals_in : Rest → List Arrival
-arrivals_in rest = rest_in rest.share rest.from rest.rows.items

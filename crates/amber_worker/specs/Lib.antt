@@ -8,10 +8,7 @@ pub mod Journals
 pub mod Counting
 pub mod Acting
 pub mod Steps
-pub mod RowsTaken
-pub mod Readied
 pub mod RedoneRows
-pub mod ReadiedRows
 pub mod Turning
 pub mod Driving
 pub mod Pairs

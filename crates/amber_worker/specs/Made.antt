@@ -1,13 +1,11 @@
 -- What a new worker is made of.
-use Rattle.std.specs.Prelude.{◌≡◌, ℕ, ◌==◌, ◌<◌, All, List, [], length, map, Option, None, Bool, true, false, if◌then◌else◌}
+use Rattle.std.specs.Prelude.{◌≡◌, ℕ, ◌==◌, ◌<◌, All, List, [], length, map, Option, Some, None, Bool, is_some, false, if◌then◌else◌}
 use Rattle.amber_rows.specs.Topology.{op_of, receiver_of, receivers_of, senders_of, what_at}
 use Rattle.amber_rows.specs.declared.value.Value.{Value}
-use Rattle.amber_rows.specs.Columns.{columns_at}
+use Rattle.amber_rows.specs.Kinds.{build_input}
 use Rattle.amber_rows.specs.declared.flow.Operator.{Operator}
 use Rattle.amber_rows.specs.declared.flow.What.{What}
-use Rattle.amber_rows.specs.declared.flow.What.TheVariants as what
-use Rattle.amber_group.specs.Group.{IsFedWith}
-use Rattle.amber_meaning.specs.Plan.{built_columns}
+use Rattle.amber_meaning.specs.Plan.{arrival_columns, built_columns}
 use Rattle.amber_meaning.specs.Position.{no_restraint}
 use Rattle.amber_scan.specs.Shares.{ShareState}
 use Rattle.rtrb.specs.Ring.{received, sent}
@@ -18,41 +16,21 @@ use Rattle.amber_link.specs.declared.upstreams.Upstream.{Upstream}
 use Rattle.amber_link.specs.declared.downstreams.Downstream.{Downstream}
 use Rattle.amber_link.specs.Sides.{without_room}
 use Rattle.amber_worker.specs.Links.{IsSoundRoute, number_to}
-use Rattle.amber_worker.specs.Fields.{WorkerFields, rest_in}
+use Rattle.amber_worker.specs.Fields.{WorkerFields}
+use Rattle.amber_operators.specs.Handed.{rest_in}
 use Rattle.amber_worker.specs.WorkerState.{WorkerState, empty_worker_state}
 use Rattle.amber_worker.specs.declared.new_worker.WorkerEnds.{WorkerEnds}
 use Rattle.amber_worker.specs.declared.new_worker.WorkerTask.{WorkerTask}
-use Rattle.amber_worker.specs.declared.operator_state.OperatorState.{OperatorState}
-use Rattle.amber_worker.specs.declared.operator_state.OperatorState.TheVariants as operator_state
-
--- what a worker does is what the workflow says
-abbrev pub IsOperatorStateOf : OperatorState → What → Type 0
-IsOperatorStateOf operator_state.Scan (what.Scan file) = Unit {0}
-IsOperatorStateOf (operator_state.Filter cond) (what.Filter input own) = cond ≡ own
-IsOperatorStateOf (operator_state.Project from) (what.Project input columns) = from ≡ columns
-IsOperatorStateOf (operator_state.Join state) (what.Join build probe build_keys probe_keys) =
-    state ≡ record { build_keys = build_keys; probe_keys = probe_keys; rows = []; sealed = false }
-IsOperatorStateOf (operator_state.Group state) (what.Group input keys aggs) = (state.keys ≡ keys) × (state.aggs ≡ aggs) × IsFedWith state []
-IsOperatorStateOf operator_state.Sink (what.Sink input) = Unit {0}
-IsOperatorStateOf _ _ = ⊥
-
--- the operator whose columns the rows have that are handed to an operator of this kind, of a join on its probe side
-abbrev pub handing_operator : What → ℕ → ℕ
-handing_operator (what.Scan file) op = op
-handing_operator (what.Filter input cond) op = input
-handing_operator (what.Project input columns) op = input
-handing_operator (what.Join build probe build_keys probe_keys) op = probe
-handing_operator (what.Group input keys aggs) op = input
-handing_operator (what.Sink input) op = input
+use Rattle.amber_operators.specs.States.{IsOperatorStateOf}
 
 -- whether an operator of this kind has a build side
-abbrev pub is_join : What → Bool
-is_join (what.Scan file) = false
-is_join (what.Filter input cond) = false
-is_join (what.Project input columns) = false
-is_join (what.Join build probe build_keys probe_keys) = true
-is_join (what.Group input keys aggs) = false
-is_join (what.Sink input) = false
+abbrev pub has_build_side : What → Bool
+has_build_side kind = is_some (build_input kind)
+
+-- an operator is this input, if there is one
+abbrev pub is_input : Option ℕ → ℕ → Bool
+is_input None op = false
+is_input (Some input) op = op == input
 
 -- the numbers of ends, one by one
 abbrev pub from_of : Upstream → ℕ
@@ -83,12 +61,7 @@ IsFreshOut batch_size out = (sent out.ring ≡ []) × (out.kept ≡ record { bat
 
 -- whether a worker is of the build side of what an operator of this kind does
 abbrev pub builds_for : List Operator → What → ℕ → Bool
-builds_for flow (what.Scan file) sender = false
-builds_for flow (what.Filter input cond) sender = false
-builds_for flow (what.Project input columns) sender = false
-builds_for flow (what.Join build probe build_keys probe_keys) sender = op_of flow sender == build
-builds_for flow (what.Group input keys aggs) sender = false
-builds_for flow (what.Sink input) sender = false
+builds_for flow kind sender = is_input (build_input kind) (op_of flow sender)
 
 -- a sender of whom nothing was taken
 abbrev pub IsFreshSender : List Operator → What → Upstream → Type 0
@@ -109,9 +82,9 @@ pub record IsFresh (new : NewWorker) (w : WorkerState) : Type 0 where
   pub op : w.op ≡ op_of new.flow new.number
   pub number : w.number ≡ new.number
   pub does : IsOperatorStateOf w.operator_state (what_at new.flow (op_of new.flow new.number))
-  pub columns : w.columns ≡ columns_at new.flow (handing_operator (what_at new.flow (op_of new.flow new.number)) (op_of new.flow new.number))
+  pub columns : w.columns ≡ arrival_columns new.flow (op_of new.flow new.number) (what_at new.flow (op_of new.flow new.number))
   pub build_columns : w.build_columns ≡ built_columns new.flow (what_at new.flow (op_of new.flow new.number))
-  pub building : w.building ≡ is_join (what_at new.flow (op_of new.flow new.number))
+  pub building : w.building ≡ has_build_side (what_at new.flow (op_of new.flow new.number))
   pub rest : w.rest ≡ rest_in new.share 0 []
   pub pending : w.pending ≡ []
   pub taken : w.taken ≡ 0
@@ -135,9 +108,9 @@ pub record IsFresh (new : NewWorker) (w : WorkerState) : Type 0 where
 pub record IsTaskOf (flow : List Operator) (worker : ℕ) (task : WorkerTask) : Type 0 where
   pub op : task.op ≡ op_of flow worker
   pub does : IsOperatorStateOf task.operator_state (what_at flow (op_of flow worker))
-  pub columns : task.columns ≡ columns_at flow (handing_operator (what_at flow (op_of flow worker)) (op_of flow worker))
+  pub columns : task.columns ≡ arrival_columns flow (op_of flow worker) (what_at flow (op_of flow worker))
   pub build_columns : task.build_columns ≡ built_columns flow (what_at flow (op_of flow worker))
-  pub building : task.building ≡ is_join (what_at flow (op_of flow worker))
+  pub building : task.building ≡ has_build_side (what_at flow (op_of flow worker))
   pub route : (row : List Value) → 0 < length (receivers_of flow worker) → number_to task.route row ≡ receiver_of flow worker row
   pub sound : IsSoundRoute task.route
 

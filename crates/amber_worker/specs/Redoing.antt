@@ -10,7 +10,7 @@ use Rattle.amber_link.specs.Links.{waiting}
 use Rattle.amber_link.specs.Sides.{AreLooked}
 use Rattle.amber_link.specs.declared.upstreams.Upstream.{Upstream}
 use Rattle.amber_worker.specs.AtPosition.{Context, HasSameEnds, IsAtPosition, IsLookedAt, Shows}
-use Rattle.amber_worker.specs.Turning.{constants_in}
+use Rattle.amber_operators.specs.States.{constants_in}
 use Rattle.amber_worker.specs.WorkerState.{WorkerState}
 use Rattle.amber_worker.specs.declared.redoing.Armed.{Armed}
 use Rattle.amber_worker.specs.declared.redoing.Redone.{Redone}

@@ -1,70 +1,27 @@
 -- A line of a log that takes rows: what these make, when it may be done, and what a worker is then.
-use Rattle.std.specs.Prelude.{◌≡◌, ℕ, ◌+◌, ◌-◌, ◌<◌, ◌≤◌, ◌==◌, ◌&&◌, not, List, [], ◌∷◌, ◌++◌, length, take, drop, Option, Bool, true, false, Ok, IfSome}
-use Rattle.std.specs.List.{flat_map}
+use Rattle.std.specs.Prelude.{◌≡◌, ℕ, ◌+◌, ◌-◌, ◌<◌, ◌≤◌, ◌==◌, ◌&&◌, not, List, [], ◌∷◌, ◌++◌, length, take, drop, Option, Bool, true, false, IfSome}
 use Rattle.amber_rows.specs.declared.value.Value.{Value}
-use Rattle.amber_rows.specs.declared.column.Column.{Column}
 use Rattle.amber_rows.specs.declared.cond.Cond.{Cond}
 use Rattle.amber_log.specs.declared.entry.Entry.TheVariants as entry
-use Rattle.amber_meaning.specs.Refused.{refusal_in, refused_in}
+use Rattle.amber_meaning.specs.Refused.{refused_in}
 use Rattle.amber_meaning.specs.Rules.{pass_by}
-use Rattle.amber_meaning.specs.Task.{Arrival, row_in}
-use Rattle.amber_meaning.specs.declared.answer.Refusal.{Refusal}
-use Rattle.amber_scan.specs.declared.share.Scanned.{Scanned}
+use Rattle.amber_meaning.specs.Task.{Arrival}
 use Rattle.amber_link.specs.Sides.{have_all_ended}
 use Rattle.amber_link.specs.declared.downstreams.Downstream.{Downstream}
 use Rattle.amber_worker.specs.Links.{IsHandedOn, number_to}
-use Rattle.amber_worker.specs.Steps.{Becomes, Closes, columns_at_hand, gives_if, keeps_if, passed_of}
+use Rattle.amber_operators.specs.States.{Closes}
+use Rattle.amber_worker.specs.Steps.{columns_at_hand}
 use Rattle.amber_worker.specs.WorkerState.{WorkerState}
-use Rattle.amber_worker.specs.declared.letting_by.Gate.{Gate}
-use Rattle.amber_worker.specs.declared.operator_state.OperatorState.{OperatorState}
-use Rattle.amber_worker.specs.declared.operator_state.OperatorState.TheVariants as operator_state
+use Rattle.amber_operators.specs.declared.operator_state.OperatorState.{OperatorState}
 use Rattle.amber_worker.specs.declared.redone_made.Offering.{Offering}
 use Rattle.amber_worker.specs.declared.redone_rows.RowsLine.{RowsLine}
 use Rattle.amber_worker.specs.declared.route.Route.{Route}
-use Rattle.amber_worker.specs.declared.taking_rows.Fate.{Fate}
+use Rattle.amber_operators.specs.ReadiedRows.{Reading, yielded_to}
+use Rattle.amber_operators.specs.ManyRows.{yielded_by, kept_by, BecomesWith}
 
 -- ---- what rows make
 
--- the rows that go on of what is handed, of the build side or not
-abbrev pub yielded_by : OperatorState → Bool → List Column → List Arrival → List (List Value)
-yielded_by d builds columns arrivals = flat_map (λ one. gives_if d builds (row_in columns one.what)) arrivals
-
--- the rows that are kept of it
-abbrev pub kept_by : OperatorState → List Column → List Arrival → List (List Value)
-kept_by d columns arrivals = flat_map (λ one. keeps_if d (row_in columns one.what)) arrivals
-
--- what a worker keeps for its operator becomes this with it
-unfoldable pub BecomesWith : OperatorState → Bool → List Column → List Arrival → OperatorState → Type 0
-BecomesWith d builds columns [] now = now ≡ d
-BecomesWith d builds columns (one ∷ more) now =
-    (next : OperatorState) × Becomes d builds (row_in columns one.what) next × BecomesWith next builds columns more now
-
--- the rows that go on of the rows of a batch, and those that are kept of them
-abbrev pub yielded_of : OperatorState → List Column → List (List Value) → List (List Value)
-yielded_of d columns rows = flat_map (λ row. gives_if d false (row_in columns (Ok row))) rows
-
-abbrev pub kept_among : OperatorState → List Column → List (List Value) → List (List Value)
-kept_among d columns rows = flat_map (λ row. keeps_if d (row_in columns (Ok row))) rows
-
--- the rows that go on of the records of a share
-abbrev pub yielded_records : List Column → List Scanned → List (List Value)
-yielded_records columns records = flat_map (λ one. gives_if operator_state.Scan false (row_in columns one.what)) records
-
--- what a scan refuses of them
-abbrev pub scan_refused : ℕ → List Scanned → List Refusal
-scan_refused op records = flat_map (λ one. refusal_in op one.number one.what) records
-
--- the rows that go on of those of which this becomes
-unfoldable pub passed_by : List Fate → List (List Value) → List (List Value)
-passed_by [] rows = []
-passed_by (fate ∷ fates) [] = []
-passed_by (fate ∷ fates) (row ∷ rows) = passed_of fate row ++ passed_by fates rows
-
 -- ---- when a line may be done
-
--- none of these rows that are still to be emitted holds a worker
-abbrev pub lets_by : Option Cond → Gate → List (List Value) → Bool
-lets_by when gate rows = pass_by when gate.waved (take gate.left rows)
 
 -- the numbers of a line meet the rule, where so many rows are left to be taken, so many are pending or come of all that it takes but for
 -- the last, and so many are pending or come of all of it
@@ -182,3 +139,20 @@ pub record MayNotGo (line : RowsLine) (w : WorkerState) : Type 0 where
 abbrev pub GoesOrNot : RowsLine → WorkerState → WorkerState → Bool → Type 0
 GoesOrNot line old new true = TakesLine line old new
 GoesOrNot line old new false = MayNotGo line old × (new ≡ old)
+
+-- what stands by besides: the rows that are pending, the condition in force, and whether the first row is waved on
+pub record StandingBy : Type 0 where
+  pub pending : List (List Value)
+  pub when : Option Cond
+  pub waved : Bool
+
+-- by what the taking of so many of these is judged
+abbrev pub offer_to : Reading → List Arrival → StandingBy → Offer
+offer_to how arrivals waiting = record {
+  left = length arrivals;
+  pending = waiting.pending;
+  before = length (yielded_by how.state how.builds how.columns (take (how.count - 1) arrivals));
+  made = yielded_to how arrivals;
+  when = waiting.when;
+  waved = waiting.waved;
+}

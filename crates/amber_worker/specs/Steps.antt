@@ -1,13 +1,9 @@
 -- What each single step of a worker changes.
-use Rattle.std.specs.Prelude.{◌≡◌, ℕ, ◌+◌, ◌^◌, ◌<◌, ◌≤◌, ◌==◌, ◌&&◌, option_to_list, not, Bool, List, [], ◌∷◌, ◌++◌, length, map, Option, Some, None, true, false, if◌then◌else◌}
-use Rattle.amber_rows.specs.Cond.{holds_of}
+use Rattle.std.specs.Prelude.{◌≡◌, ℕ, ◌+◌, ◌^◌, ◌<◌, ◌==◌, ◌&&◌, Bool, List, [], ◌∷◌, ◌++◌, length, map, Option, true, false, if◌then◌else◌}
 use Rattle.amber_rows.specs.Order.{sort_rows}
-use Rattle.amber_rows.specs.Operators.{first_keys, group_result, matches_of, pick_cells, refused_keys}
 use Rattle.amber_rows.specs.declared.value.Value.{Value}
 use Rattle.amber_rows.specs.declared.column.Column.{Column}
 use Rattle.amber_rows.specs.declared.batch.Batch.{Batch}
-use Rattle.amber_group.specs.Group.{Group, IsFedWith}
-use Rattle.amber_join.specs.Join.{Join}
 use Rattle.amber_log.specs.declared.entry.Entry.{Entry}
 use Rattle.amber_log.specs.declared.entry.Entry.TheVariants as entry
 use Rattle.amber_meaning.specs.Rules.{restraint_used}
@@ -16,8 +12,6 @@ use Rattle.amber_meaning.specs.Refused.{refusal_in}
 use Rattle.amber_rows.specs.Lists.{first_of}
 use Rattle.amber_meaning.specs.declared.answer.Refusal.{Refusal}
 use Rattle.amber_meaning.specs.declared.answer.Refusal.TheVariants as refusal
-use Rattle.amber_meaning.specs.declared.view.Extra.{Extra}
-use Rattle.amber_meaning.specs.declared.view.Extra.TheVariants as extra
 use Rattle.amber_meaning.specs.declared.view.Stand.TheVariants as stand
 use Rattle.amber_meaning.specs.declared.view.WorkerView.{WorkerView}
 use Rattle.amber_board.specs.declared.types.WorkSeat.{WorkSeat}
@@ -26,119 +20,14 @@ use Rattle.amber_link.specs.Sides.{AreEnded, AreLooked, IsTaken, have_all_ended}
 use Rattle.amber_link.specs.declared.upstreams.Upstream.{Upstream}
 use Rattle.amber_link.specs.declared.downstreams.Downstream.{Downstream}
 use Rattle.amber_worker.specs.Counting.{CountsOne}
-use Rattle.amber_worker.specs.Fields.{row_from}
+use Rattle.amber_operators.specs.Handed.{row_from}
 use Rattle.amber_worker.specs.Links.{IsHandedOn, number_to}
 use Rattle.amber_worker.specs.WorkerState.{WorkerState, has_ready, is_armed}
-use Rattle.amber_worker.specs.declared.operator_state.OperatorState.{OperatorState}
-use Rattle.amber_worker.specs.declared.operator_state.OperatorState.TheVariants as operator_state
-use Rattle.amber_worker.specs.declared.taking_rows.Fate.{Fate}
-use Rattle.amber_worker.specs.declared.taking_rows.Fate.TheVariants as fate
+use Rattle.amber_operators.specs.declared.operator_state.OperatorState.{OperatorState}
+use Rattle.amber_operators.specs.RowsTaken.{gives_if, keeps_if}
+use Rattle.amber_operators.specs.States.{Becomes, turned_to, Closes, IsExtra, IsRefused}
 
 -- ---- rows
-
--- the rows that go on of a row that suits, of the build side or not
-abbrev pub row_yield : OperatorState → Bool → List Value → List (List Value)
-row_yield operator_state.Scan builds row = row ∷ []
-row_yield (operator_state.Filter cond) builds row = if holds_of cond row then row ∷ [] else []
-row_yield (operator_state.Project from) builds row = pick_cells from row ∷ []
-row_yield (operator_state.Join state) builds row = if builds then [] else matches_of state.build_keys state.probe_keys state.rows row
-row_yield (operator_state.Group state) builds row = []
-row_yield operator_state.Sink builds row = []
-
-abbrev pub gives_if : OperatorState → Bool → Option (List Value) → List (List Value)
-gives_if operator_state builds None = []
-gives_if operator_state builds (Some row) = row_yield operator_state builds row
-
--- the rows that are kept of a row that suits
-abbrev pub keeps : OperatorState → List Value → List (List Value)
-keeps operator_state.Scan row = []
-keeps (operator_state.Filter cond) row = []
-keeps (operator_state.Project from) row = []
-keeps (operator_state.Join state) row = []
-keeps (operator_state.Group state) row = []
-keeps operator_state.Sink row = row ∷ []
-
-abbrev pub keeps_if : OperatorState → Option (List Value) → List (List Value)
-keeps_if operator_state None = []
-keeps_if operator_state (Some row) = keeps operator_state row
-
--- what a join keeps of the build side, with this row where it suits
-abbrev pub built_with : Bool → Option (List Value) → Join → Join
-built_with builds None state = state
-built_with true (Some row) state = record state { rows = state.rows ++ row ∷ [] }
-built_with false (Some row) state = state
-
--- a group was fed this row, where it suits
-pub record Feeds (found : Option (List Value)) (old new : Group) : Type 0 where
-  pub keys : new.keys ≡ old.keys
-  pub aggs : new.aggs ≡ old.aggs
-  pub fed : new.fed ≤ old.fed + 1
-  pub stands : (rows : List (List Value)) → IsFedWith old rows → IsFedWith new (rows ++ option_to_list found)
-
--- what a worker keeps of the rows that it took becomes this with another row
-abbrev pub Becomes : OperatorState → Bool → Option (List Value) → OperatorState → Type 0
-Becomes operator_state.Scan builds found new = new ≡ operator_state.Scan
-Becomes (operator_state.Filter cond) builds found new = new ≡ operator_state.Filter cond
-Becomes (operator_state.Project from) builds found new = new ≡ operator_state.Project from
-Becomes (operator_state.Join state) builds found new = new ≡ operator_state.Join (built_with builds found state)
-Becomes (operator_state.Group state) builds found new = (now : Group) × (new ≡ operator_state.Group now) × Feeds found state now
-Becomes operator_state.Sink builds found new = new ≡ operator_state.Sink
-
--- the rows of the groups, once nothing more can come
-abbrev pub GivesGroups : Group → Bool → List (List Value) → Type 0
-GivesGroups state true rows = (fed : List (List Value)) → IsFedWith state fed → rows ≡ group_result state.keys state.aggs fed
-GivesGroups state false rows = rows ≡ []
-
--- the rows that a worker gives at the end, once nothing more can come
-abbrev pub Closes : OperatorState → Bool → List (List Value) → Type 0
-Closes operator_state.Scan over rows = rows ≡ []
-Closes (operator_state.Filter cond) over rows = rows ≡ []
-Closes (operator_state.Project from) over rows = rows ≡ []
-Closes (operator_state.Join state) over rows = rows ≡ []
-Closes (operator_state.Group state) over rows = GivesGroups state over rows
-Closes operator_state.Sink over rows = rows ≡ []
-
--- the batches at hand are of the build side, or of the other: then what a join keeps is sealed
-abbrev pub turned_to : Bool → OperatorState → OperatorState
-turned_to builds operator_state.Scan = operator_state.Scan
-turned_to builds (operator_state.Filter cond) = operator_state.Filter cond
-turned_to builds (operator_state.Project from) = operator_state.Project from
-turned_to builds (operator_state.Join state) = operator_state.Join (if builds then state else record state { sealed = true })
-turned_to builds (operator_state.Group state) = operator_state.Group state
-turned_to builds operator_state.Sink = operator_state.Sink
-
--- a worker may take a row of this side: a build row before what is kept is sealed, a probe row after
-abbrev pub MayTakeRow : OperatorState → Bool → Type 0
-MayTakeRow operator_state.Scan builds = Unit {0}
-MayTakeRow (operator_state.Filter cond) builds = Unit {0}
-MayTakeRow (operator_state.Project from) builds = Unit {0}
-MayTakeRow (operator_state.Join state) builds = state.sealed ≡ not builds
-MayTakeRow (operator_state.Group state) builds = state.fed < 2 ^ 40
-MayTakeRow operator_state.Sink builds = Unit {0}
-
--- a worker keeps nothing of the rows that it took
-abbrev pub is_plain : OperatorState → Bool
-is_plain operator_state.Scan = true
-is_plain (operator_state.Filter cond) = true
-is_plain (operator_state.Project from) = true
-is_plain (operator_state.Join state) = false
-is_plain (operator_state.Group state) = false
-is_plain operator_state.Sink = false
-
--- what a worker keeps are groups
-abbrev pub is_group : OperatorState → Bool
-is_group operator_state.Scan = false
-is_group (operator_state.Filter cond) = false
-is_group (operator_state.Project from) = false
-is_group (operator_state.Join state) = false
-is_group (operator_state.Group state) = true
-is_group operator_state.Sink = false
-
--- what becomes of a row: the rows that go on
-abbrev pub passed_of : Fate → List Value → List (List Value)
-passed_of fate.Dropped row = []
-passed_of fate.Passed row = row ∷ []
-passed_of (fate.Made other) row = other ∷ []
 
 -- ---- the journal
 
@@ -260,15 +149,6 @@ pub record TakesBatch (old new : WorkerState) : Type 0 where
   pub closes : Closes old.operator_state ((length batch.rows == 0) && have_all_ended ins) last
   pub after : new ≡ batch_taken one batch ins last old
 
--- what a worker shows by what it does
-abbrev pub IsExtra : OperatorState → ℕ → ℕ → Extra → Type 0
-IsExtra operator_state.Scan refused kept shown = shown ≡ extra.Scan refused
-IsExtra (operator_state.Filter cond) refused kept shown = shown ≡ extra.Nothing
-IsExtra (operator_state.Project from) refused kept shown = shown ≡ extra.Nothing
-IsExtra (operator_state.Join state) refused kept shown = shown ≡ extra.Join (length (first_keys state.build_keys state.rows)) (length state.rows)
-IsExtra (operator_state.Group state) refused kept shown = (rows : List (List Value)) → IsFedWith state rows → shown ≡ extra.Group (length (first_keys state.keys rows))
-IsExtra operator_state.Sink refused kept shown = shown ≡ extra.Sink kept
-
 -- what a worker shows
 pub record IsShown (w : WorkerState) (view : WorkerView) : Type 0 where
   pub taken : view.taken ≡ w.taken
@@ -278,15 +158,6 @@ pub record IsShown (w : WorkerState) (view : WorkerView) : Type 0 where
   pub stand : view.stand ≡ (if w.finished then stand.Finished else (if w.restraint.held then stand.Held else stand.Ready))
   pub next : view.next ≡ first_of w.pending
   pub extra : IsExtra w.operator_state (length w.refused) (length w.kept) view.extra
-
--- the keys that a worker has refused
-abbrev pub IsRefused : OperatorState → List (List Value) → Type 0
-IsRefused operator_state.Scan keys = keys ≡ []
-IsRefused (operator_state.Filter cond) keys = keys ≡ []
-IsRefused (operator_state.Project from) keys = keys ≡ []
-IsRefused (operator_state.Join state) keys = keys ≡ []
-IsRefused (operator_state.Group state) keys = (rows : List (List Value)) → IsFedWith state rows → keys ≡ refused_keys state.keys state.aggs rows
-IsRefused operator_state.Sink keys = keys ≡ []
 
 -- the keys that a worker gives: those that it has refused once it has finished, none before
 abbrev pub AreKeysOf : Bool → OperatorState → List (List Value) → Type 0

@@ -1,7 +1,6 @@
 -- What a turn of a worker has done.
 use Rattle.std.specs.Prelude.{◌≡◌, ◌⊎◌, ℕ, ◌+◌, ◌≤◌, List, [], ◌∷◌, ◌++◌, filter, not, Option, None, Bool, true, false, if◌then◌else◌}
 use Rattle.amber_rows.specs.declared.batch.Batch.{Batch}
-use Rattle.amber_rows.specs.declared.value.Value.{Value}
 use Rattle.amber_log.specs.declared.entry.Entry.{Entry}
 use Rattle.amber_log.specs.declared.entry.Entry.TheVariants as entry
 use Rattle.amber_meaning.specs.Position.{no_restraint}
@@ -15,10 +14,9 @@ use Rattle.amber_worker.specs.Steps.{EmitsRow, Finishes, TakesBatch, TakesRow, h
 use Rattle.amber_worker.specs.WorkerState.{WorkerState, is_armed, next_turn, steps_made}
 use Rattle.amber_worker.specs.declared.counting.Dealing.{Dealing}
 use Rattle.amber_mail.specs.declared.mail.Control.{Control}
-use Rattle.amber_worker.specs.declared.operator_state.OperatorState.{OperatorState}
-use Rattle.amber_worker.specs.declared.operator_state.OperatorState.TheVariants as operator_state
 use Rattle.amber_worker.specs.declared.turn.Turn.{Turn}
 use Rattle.amber_worker.specs.declared.turn.Turn.TheVariants as turn
+use Rattle.amber_operators.specs.States.{constants_in}
 
 -- the turn that a worker makes, by what it found when it looked
 pub record IsNextTurn (old : WorkerState) (turn : Turn) : Type 0 where
@@ -106,15 +104,6 @@ other_entries journal = filter (λ one. not (tells_steps one)) journal
 -- the batches of a sender that had come, and perhaps more
 abbrev pub HaveMoreCome : Upstream → Upstream → Type 0
 HaveMoreCome old new = (more : List Batch) × (come new.link ≡ come old.link ++ more)
-
--- the constant that rows are compared with
-abbrev pub constants_in : OperatorState → List Value
-constants_in operator_state.Scan = []
-constants_in (operator_state.Filter cond) = cond.constant ∷ []
-constants_in (operator_state.Project from) = []
-constants_in (operator_state.Join state) = []
-constants_in (operator_state.Group state) = []
-constants_in operator_state.Sink = []
 
 -- turns were made, this many or fewer: the worker keeps what it stands for, its ends, its constant, its seat and the room of its
 -- journal; no count falls, nor do steps, rows taken and emitted and steps rise by at most so many, and under a count as many units were

@@ -16,10 +16,10 @@ use Rattle.amber_link.specs.declared.upstreams.Upstream.{Upstream}
 use Rattle.amber_link.specs.declared.downstreams.Downstream.{Downstream}
 use Rattle.amber_worker.specs.declared.route.Route.{Route}
 use Rattle.amber_worker.specs.declared.route.Route.TheVariants as route
-use Rattle.amber_worker.specs.declared.operator_state.OperatorState.{OperatorState}
-use Rattle.amber_worker.specs.declared.operator_state.OperatorState.TheVariants as operator_state
+use Rattle.amber_operators.specs.declared.operator_state.OperatorState.{OperatorState}
 use Rattle.amber_worker.specs.declared.turn.Turn.{Turn}
 use Rattle.amber_worker.specs.declared.turn.Turn.TheVariants as turn
+use Rattle.amber_operators.specs.States.{no_operator_state}
 
 pub record WorkerState : Type 0 where
   -- its operator and its own running number
@@ -63,7 +63,7 @@ abbrev pub empty_worker_state : WorkerState
 empty_worker_state = record {
   op = 0;
   number = 0;
-  operator_state = operator_state.Sink;
+  operator_state = no_operator_state;
   columns = [];
   build_columns = [];
   building = false;

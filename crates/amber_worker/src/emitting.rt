@@ -7,9 +7,9 @@ ghost use Rattle.amber_worker.specs.Emitting.{EmitsMany, side_of};
 ghost use Rattle.amber_worker.specs.Links.{EmitsFirst, IsSoundRoute};
 
 use crate::links::receiver_place;
-use crate::pending::Pending;
 use crate::route::Route;
 use amber_link::{Downstream, push_at};
+use amber_operators::Pending;
 
 // Hands the first of these rows on to the receiver to which it goes, if there is one. There is room for it.
 fn emit_next(route: &Route, pending: &mut Pending, outs: &mut [Downstream])

@@ -2,10 +2,10 @@
 
 ghost use Rattle.std.specs.Prelude.{◌≡◌, ◌++◌, map, IfOk, OnOk};
 ghost use Rattle.amber_rows.specs.Order.{sort_rows};
-ghost use Rattle.amber_worker.specs.Steps.{AreKeysOf, IsRefused};
+ghost use Rattle.amber_worker.specs.Steps.{AreKeysOf};
 
-use crate::operator_state::OperatorState;
 use amber_meaning::{Refusal, Refusals};
+use amber_operators::{OperatorState, refused_keys};
 use amber_rows::{Row, Rows, sort};
 use std::alloc::{AllocError, Global};
 
@@ -15,23 +15,6 @@ use std::alloc::{AllocError, Global};
 pub struct Given {
     pub refused: Refusals,
     pub rows: Rows,
-}
-
-// The keys that a worker has refused: of a group those that have no row.
-fn refused_keys(alloc: Global, operator_state: &OperatorState) -> Result<Vec<Row>, AllocError>
-    ensures { IfOk result (λ keys. IsRefused operator_state.now keys.items) }
-{
-    match operator_state {
-        OperatorState::Group(state) => {
-            let group_result = state.finish(alloc)?;
-            Ok(group_result.refused.into_inner())
-        }
-        OperatorState::Scan
-        | OperatorState::Filter(_)
-        | OperatorState::Project(_)
-        | OperatorState::Join(_)
-        | OperatorState::Sink => { Ok(Vec::new(alloc)) }
-    }
 }
 
 // Appends the refused keys of a group to what was refused before.

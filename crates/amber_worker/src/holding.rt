@@ -3,7 +3,7 @@
 ghost use Rattle.std.specs.Prelude.{◌≡◌};
 ghost use Rattle.amber_meaning.specs.Rules.{first_is_watched};
 
-use crate::pending::Pending;
+use amber_operators::Pending;
 use amber_rows::{Cond, holds};
 
 // Whether the row that is emitted next meets the condition.

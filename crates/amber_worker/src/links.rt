@@ -8,12 +8,12 @@ ghost use Rattle.amber_link.specs.declared.downstreams.Downstream.{Downstream as
 ghost use Rattle.amber_worker.specs.Links.{AreEndsOf, EmitsFirst, IsFirstPlace, IsSoundRoute, Passes};
 ghost use Rattle.amber_worker.specs.declared.route.Route.{Route as OneRoute};
 
-use crate::pending::Pending;
 use crate::route::Route;
 use amber_link::{
     Downstream, Upstream, end_all, give_back, place_of, place_to, push_at, reserve_at,
     reserve_ends, settle_at, take_back,
 };
+use amber_operators::Pending;
 use amber_rows::Row;
 use std::alloc::AllocError;
 

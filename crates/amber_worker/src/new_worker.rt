@@ -1,67 +1,19 @@
 //! What a new worker is given of its workflow: its task and the ends of its links. Over `Flow` of
-//! `amber_rows`.
+//! `amber_rows` and `OperatorState` of `amber_operators`.
 
-ghost use Rattle.std.specs.Prelude.{◌≡◌, ◌<◌, ◌≤◌, List, All, true, false, length, map, slice_index_or, IfOk, IfNone, IfSome};
+ghost use Rattle.std.specs.Prelude.{◌≡◌, ◌<◌, List, All, false, length, map, slice_index_or, IfOk};
 ghost use Rattle.amber_rows.specs.Topology.{crew_of, op_of, receiver_of, receivers_of, senders_of, what_at};
-ghost use Rattle.amber_rows.specs.Kinds.{is_keyed, side_keys};
 ghost use Rattle.amber_rows.specs.Columns.{columns_at};
 ghost use Rattle.amber_rows.specs.declared.value.Value.{Value as Cell};
-ghost use Rattle.amber_meaning.specs.Plan.{built_columns};
+ghost use Rattle.amber_meaning.specs.Plan.{arrival_columns, built_columns};
 ghost use Rattle.amber_worker.specs.Links.{IsSoundRoute, number_to};
-ghost use Rattle.amber_worker.specs.Made.{AreFreshSenders, AreNumbered, IsFreshIn, IsFreshSender, IsOperatorStateOf, IsTaskOf, builds_for, from_of, handing_operator, end_of, is_join, out_of, to_of};
+ghost use Rattle.amber_worker.specs.Made.{AreFreshSenders, AreNumbered, IsFreshIn, IsFreshSender, IsTaskOf, builds_for, end_of, from_of, has_build_side, out_of, to_of};
 
-use crate::operator_state::OperatorState;
 use crate::route::Route;
-use amber_group::GroupState;
-use amber_join::JoinState;
 use amber_link::{Downstream, In, Out, Upstream};
-use amber_ops::{FilterState, ProjectState};
-use amber_rows::{Aggs, Cols, Cond, Flow, Schema, What};
+use amber_operators::{OperatorState, keys_into, operator_state_of};
+use amber_rows::{Flow, Schema, What};
 use std::alloc::{AllocError, Global};
-
-// What a worker of this kind does with a row.
-fn operator_state_of(alloc: Global, what: &What) -> Result<OperatorState, AllocError>
-    ensures { IfOk result (λ operator_state. IsOperatorStateOf operator_state what.now) }
-{
-    match what {
-        What::Scan { .. } => Ok(OperatorState::Scan),
-        What::Filter { cond, .. } => Ok(OperatorState::Filter(FilterState::new(cond.clone()?))),
-        What::Project { from, .. } => {
-            let columns = from.clone()?;
-            Ok(OperatorState::Project(ProjectState::new(alloc, columns)))
-        }
-        What::Join {
-            build_keys,
-            probe_keys,
-            ..
-        } => {
-            let build = build_keys.clone()?;
-            let probe = probe_keys.clone()?;
-            Ok(OperatorState::Join(JoinState::new(alloc, build, probe)))
-        }
-        What::Group { keys, aggs, .. } => {
-            let keys = keys.clone()?;
-            let aggs = aggs.clone()?;
-            Ok(OperatorState::Group(GroupState::new(alloc, keys, aggs)))
-        }
-        What::Sink { .. } => Ok(OperatorState::Sink),
-    }
-}
-
-// The operator whose columns the rows have that are handed to an operator of this kind: a scan's
-// are its own, a join's those of its probe side.
-fn handing_operator(what: &What, op: u32) -> u32
-    ensures { result ≡ handing_operator what.now op }
-{
-    match what {
-        What::Scan { .. } => op,
-        What::Filter { input, .. }
-        | What::Project { input, .. }
-        | What::Group { input, .. }
-        | What::Sink { input } => *input,
-        What::Join { probe, .. } => *probe,
-    }
-}
 
 // The columns of an operator.
 fn schema_of(alloc: Global, flow: &Flow, op: u32) -> Result<Schema, AllocError>
@@ -73,25 +25,33 @@ fn schema_of(alloc: Global, flow: &Flow, op: u32) -> Result<Schema, AllocError>
     }
 }
 
+// The columns of the rows that are handed to an operator of this kind: those of its main input, of a scan its own.
+fn arrival_columns_of(
+    alloc: Global,
+    flow: &Flow,
+    what: &What,
+    op: u32,
+) -> Result<Schema, AllocError>
+    ensures { IfOk result (λ columns. columns ≡ arrival_columns flow.now op what.now) }
+{
+    schema_of(alloc, flow, what.main_input().unwrap_or(op))
+}
+
 // The columns of the rows of a build side; none where there is none.
 fn build_columns_of(alloc: Global, flow: &Flow, what: &What) -> Result<Schema, AllocError>
     ensures { IfOk result (λ columns. columns ≡ built_columns flow.now what.now) }
 {
-    match what {
-        What::Join { build, .. } => schema_of(alloc, flow, *build),
-        What::Scan { .. }
-        | What::Filter { .. }
-        | What::Project { .. }
-        | What::Group { .. }
-        | What::Sink { .. } => Ok(Schema::new(Vec::new(alloc))),
+    match what.build_input() {
+        None => Ok(Schema::new(Vec::new(alloc))),
+        Some(build) => schema_of(alloc, flow, build),
     }
 }
 
 // Whether an operator of this kind has a build side.
-fn is_join(what: &What) -> bool
-    ensures { result ≡ is_join what.now }
+fn has_build_side(what: &What) -> bool
+    ensures { result ≡ has_build_side what.now }
 {
-    matches!(what, What::Join { .. })
+    what.build_input().is_some()
 }
 
 // Whether a sender is of the build side of what an operator of this kind does.
@@ -99,13 +59,9 @@ fn builds_for(flow: &Flow, what: &What, sender: u32) -> bool
     requires { sender < crew_of flow.now }
     ensures { result ≡ builds_for flow.now what.now sender }
 {
-    match what {
-        What::Join { build, .. } => flow.op_of(sender) == *build,
-        What::Scan { .. }
-        | What::Filter { .. }
-        | What::Project { .. }
-        | What::Group { .. }
-        | What::Sink { .. } => false,
+    match what.build_input() {
+        None => false,
+        Some(build) => flow.op_of(sender) == build,
     }
 }
 
@@ -182,24 +138,6 @@ fn downstreams_of(
     Ok(receivers)
 }
 
-// The keys by which the rows of an operator go into this kind of operator, if they go by keys.
-fn keys_into(what: &What, op: u32) -> Option<&Cols>
-    ensures none { IfNone result (is_keyed what.now ≡ false) }
-    ensures some { IfSome result (λ keys. (is_keyed what.now ≡ true) × (keys.now
-        ≡ side_keys what.now op)) }
-{
-    match what {
-        What::Join {
-            build,
-            build_keys,
-            probe_keys,
-            ..
-        } => Some(if *build == op { build_keys } else { probe_keys }),
-        What::Group { keys, .. } => Some(keys),
-        What::Scan { .. } | What::Filter { .. } | What::Project { .. } | What::Sink { .. } => None,
-    }
-}
-
 // To whom the rows of a worker go.
 fn route_of(flow: &Flow, worker: u32) -> Result<Route, AllocError>
     requires { worker < crew_of flow.now }
@@ -257,7 +195,7 @@ pub(crate) fn task_of(alloc: Global, flow: &Flow, worker: u32) -> Result<WorkerT
 {
     let op = flow.op_of(worker);
     let what = what_of(flow, worker);
-    let columns = schema_of(alloc, flow, handing_operator(what, op))?;
+    let columns = arrival_columns_of(alloc, flow, what, op)?;
     let build_columns = build_columns_of(alloc, flow, what)?;
     let route = route_of(flow, worker)?;
     let operator_state = operator_state_of(alloc, what)?;
@@ -266,7 +204,7 @@ pub(crate) fn task_of(alloc: Global, flow: &Flow, worker: u32) -> Result<WorkerT
         operator_state,
         columns,
         build_columns,
-        building: is_join(what),
+        building: has_build_side(what),
         route,
     })
 }

@@ -5,18 +5,16 @@ ghost use Rattle.std.specs.Prelude.{All, IfOk, IfSome, MatchBool, Ok, OnOk, [], 
 ghost use Rattle.std.specs.VecDeque.{deque_capacity};
 ghost use Rattle.amber_link.specs.Sides.{have_all_ended, without_room};
 ghost use Rattle.amber_worker.specs.Emitting.{EmitsMany, side_of};
-ghost use Rattle.amber_worker.specs.Fields.{arrivals_in};
+ghost use Rattle.amber_operators.specs.Handed.{arrivals_in};
 ghost use Rattle.amber_worker.specs.Links.{IsSoundRoute};
 ghost use Rattle.amber_worker.specs.RedoneRows.{MayGoOn, most_pending, offer_in};
 
 use crate::emitting::emit_many;
 use crate::journal::Journal;
-use crate::letting_by::{Gate, lets_pending_by, lets_rows_by};
-use crate::pending::Pending;
-use crate::redone_rows::{RowsLine, fits, join_rows, move_all};
+use crate::redone_rows::{RowsLine, fits};
 use crate::route::Route;
-use crate::taking_rows::Rest;
 use amber_link::{Downstream, Upstream, have_ended, reserve_rows};
+use amber_operators::{Gate, Pending, Rest, join_rows, lets_pending_by, lets_rows_by, move_all};
 use amber_rows::{Cond, Row};
 use std::alloc::AllocError;
 use std::collections::VecDeque;

@@ -1,15 +1,11 @@
-//! The parts of what a worker shows. Over `Flags`, `OperatorState` and `Gains`; they are put together in
-//! `views`.
+//! The parts of what a worker shows. Over `Flags` and `Pending`; they are put together in `views`.
 
-ghost use Rattle.std.specs.Prelude.{◌≡◌, IfOk, if◌then◌else◌, length};
+ghost use Rattle.std.specs.Prelude.{◌≡◌, IfOk, if◌then◌else◌};
 ghost use Rattle.amber_rows.specs.Lists.{first_of};
-ghost use Rattle.amber_worker.specs.Steps.{IsExtra};
 
 use crate::flags::Flags;
-use crate::operator_state::OperatorState;
-use crate::pending::Pending;
-use crate::taking_rows::Gains;
-use amber_meaning::{Extra, Stand};
+use amber_meaning::Stand;
+use amber_operators::Pending;
 use amber_rows::Row;
 use std::alloc::AllocError;
 
@@ -34,28 +30,5 @@ pub(crate) fn stand_of(finished: bool, flags: Flags) -> Stand
         Stand::Held
     } else {
         Stand::Ready
-    }
-}
-
-// What a worker shows by what it does.
-pub(crate) fn extra_of(operator_state: &OperatorState, gains: &Gains) -> Extra
-    ensures { IsExtra operator_state.now (length gains.now.refused.items) (length
-        gains.now.kept.items) result }
-{
-    match operator_state {
-        OperatorState::Scan => Extra::Scan {
-            refused: gains.refused.len() as u64,
-        },
-        OperatorState::Filter(_) | OperatorState::Project(_) => Extra::Nothing,
-        OperatorState::Join(state) => Extra::Join {
-            keys: state.keys(),
-            built: state.rows(),
-        },
-        OperatorState::Group(state) => Extra::Group {
-            groups: state.groups(),
-        },
-        OperatorState::Sink => Extra::Sink {
-            kept: gains.kept.len() as u64,
-        },
     }
 }

@@ -11,7 +11,8 @@ ghost use Rattle.amber_link.specs.declared.downstreams.Downstream.{Downstream as
 ghost use Rattle.amber_link.specs.declared.upstreams.Upstream.{Upstream as OneUpstream};
 ghost use Rattle.amber_worker.specs.WorkerState.{steps_made};
 ghost use Rattle.amber_worker.specs.Made.{IsFreshIn, IsFreshOut, end_of, link_of, roomless};
-ghost use Rattle.amber_worker.specs.Changes.{ShowsSet, StandsAtLeg, StandsNew, at_leg_start, with_value};
+ghost use Rattle.amber_worker.specs.Changes.{ShowsSet, StandsAtLeg, StandsNew, at_leg_start};
+ghost use Rattle.amber_operators.specs.States.{with_value};
 
 mod beginning;
 mod driven;
@@ -30,13 +31,11 @@ mod views;
 use crate::flags::Flags;
 use crate::journal::Journal;
 use crate::new_worker::{ends_of, task_of};
-use crate::operator_state::OperatorState;
 use crate::route::Route;
-use crate::setting::set_value;
-use crate::taking_rows::{Gains, Rest};
 use amber_board::WorkSeat;
 use amber_link::{Downstream, In, Out, Upstream, has_receiver, waiting_at};
 use amber_log::{Entries, Entry};
+use amber_operators::{Gains, OperatorState, Rest, set_value};
 use amber_rows::{Cond, Flow, Schema, Value};
 use amber_scan::Share;
 pub use linking::settle_workers;
@@ -110,7 +109,8 @@ impl Model for Worker {
 
     ghost use Rattle.std.specs.Prelude.{if◌then◌else◌};
     ghost use Rattle.amber_worker.specs.Counting.{hand_in};
-    ghost use Rattle.amber_worker.specs.Fields.{AreFew, arrivals_in, restraint_of};
+    ghost use Rattle.amber_worker.specs.Fields.{AreFew, restraint_of};
+    ghost use Rattle.amber_operators.specs.Handed.{arrivals_in};
 
     ghost view = { λ a. record {
       op = a.op;

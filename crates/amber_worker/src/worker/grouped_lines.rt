@@ -1,19 +1,17 @@
 //! A line of a log that takes rows of a group, done again: the rows are fed first, and taken out again where the line may not
-//! be done. Rests on `redone_groups` and `redone_made`.
+//! be done. Rests on `redone_made`, and on `feed_groups` of `amber_operators`.
 
 ghost use Rattle.std.specs.Prelude.{false, true, IfOk, OnErr, ◌+◌, ◌^◌, ◌≡◌, ◌≤◌};
 ghost use Rattle.amber_worker.specs.RedoneRows.{GoesOrNot};
-ghost use Rattle.amber_worker.specs.Steps.{is_group};
-ghost use Rattle.amber_worker.specs.WorkerState.{WorkerState, steps_made};
+ghost use Rattle.amber_operators.specs.States.{is_group};
+ghost use Rattle.amber_worker.specs.WorkerState.{steps_made};
 
 use super::Worker;
 use super::taking_lines::stays_waved;
-use crate::operator_state::OperatorState;
-use crate::redone_groups::{Fed, feed_rows};
 use crate::redone_made::{Offering, ends_with, hand_line, is_done, settle};
-use crate::redone_rows::{RowsLine, drop_all};
-use crate::taking_rows::side_columns;
+use crate::redone_rows::RowsLine;
 use amber_log::Entry;
+use amber_operators::{Fed, drop_all, feed_groups, side_columns, unfeed_groups};
 use std::alloc::AllocError;
 use std::collections::VecDeque;
 
@@ -31,13 +29,11 @@ impl Worker {
         if rows > left {
             return Ok(false);
         }
-        let OperatorState::Group(state) = &mut self.operator_state else {
-            unreachable!()
-        };
+        let state = &mut self.operator_state;
         let over = ends_with(rows, &self.rest, self.ins.as_slice());
         let columns = side_columns(self.building, &self.build_columns, &self.columns);
         let (batch, count) = (&mut self.rest.rows, rows as usize);
-        let Fed { taken, made } = feed_rows(self.alloc, batch, columns, count, over, state)?;
+        let Fed { taken, made } = feed_groups(self.alloc, batch, columns, count, over, state)?;
         let (gains, waved) = (&mut self.gains, self.flags.waved);
         let links = self.outs.as_mut_slice();
         let journal = &mut self.journal;
@@ -45,7 +41,7 @@ impl Worker {
         let offering = Offering::new(left, &gains.pending, &made, &self.when, waved);
         let may = settle(line, &offering, links, journal, &mut room);
         if !is_done(&may) {
-            state.undo_line(taken);
+            unfeed_groups(taken, state);
             return may;
         }
         drop_all(batch, count, &mut gains.done);

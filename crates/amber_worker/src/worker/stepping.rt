@@ -1,5 +1,5 @@
 //! The steps that a worker makes, each after it has dealt with its hand of units, and the turn that makes one of them.
-//! Rests on `standing`, `taking_rows`, `links`, `counting` and `journal`.
+//! Rests on `standing`, `links`, `counting` and `journal`, and on what `amber_operators` does with rows.
 
 ghost use Rattle.std.specs.Prelude.{false, true, IfNone, IfSome, length, slice_index_or, IfOk, OnErr, OnOk, ◌≡◌, ◌≢◌, ◌^◌, ◌<◌, ℕ};
 ghost use Rattle.std.specs.Option.{option_copied};
@@ -8,7 +8,7 @@ ghost use Rattle.amber_link.specs.Sides.{have_all_ended};
 ghost use Rattle.amber_link.specs.declared.upstreams.Upstream.{Upstream as OneUpstream};
 ghost use Rattle.amber_worker.specs.Acting.{MayDeal};
 ghost use Rattle.amber_worker.specs.Counting.{IsBoardOf};
-ghost use Rattle.amber_worker.specs.WorkerState.{IsUnrestrained, WorkerState, has_ready, must_hold, steps_made};
+ghost use Rattle.amber_worker.specs.WorkerState.{IsUnrestrained, has_ready, must_hold, steps_made};
 ghost use Rattle.amber_worker.specs.Steps.{TakesRow};
 ghost use Rattle.amber_worker.specs.AtPosition.{IsLookedAt};
 ghost use Rattle.amber_worker.specs.Links.{MayTakeAt};
@@ -17,15 +17,15 @@ ghost use Rattle.amber_worker.specs.Turning.{FinishesDealing, TakesDealing, Turn
 use super::Worker;
 use crate::counting::{Dealing, count_one, deal, is_starved};
 use crate::holding::is_first_watched;
-use crate::leaving::{leave_readied, take_readied};
 use crate::links::{emit_first, end_streams, first_place, give_rows_back, rows_back};
-use crate::operator_state::OperatorState;
-use crate::readied::ready_next;
-use crate::taking_rows::{close, closes_at, closing_of, is_last, side_columns, take_next, turn_to};
 use crate::turn::Turn;
 use amber_board::Board;
 use amber_link::{Found, have_built, have_ended, ready_place, take_at};
 use amber_log::Entry;
+use amber_operators::{
+    close, closes_at, closing_of, is_last, leave_readied, ready_next, side_columns, take_next,
+    take_readied, turn_to,
+};
 use std::alloc::AllocError;
 use std::collections::VecDeque;
 use std::mem;
@@ -45,20 +45,15 @@ impl Worker {
         !self.rest.is_empty()
     }
 
-    // Whether the rows that it makes are not those that came.
-    fn makes_rows(&self) -> bool {
-        match &self.operator_state {
-            OperatorState::Scan | OperatorState::Project(_) | OperatorState::Join(_) => true,
-            OperatorState::Filter(_) | OperatorState::Group(_) | OperatorState::Sink => false,
-        }
-    }
-
     // Has rows that a receiver is done with, to write over, where none is left and it is time to look.
     #[inline(always)]
     fn fetch_used(&mut self)
         ensures { self.new ≡ self.old }
     {
-        if self.gains.free.is_empty() && self.makes_rows() && self.gains.free.is_due() {
+        if self.gains.free.is_empty()
+            && self.operator_state.makes_rows()
+            && self.gains.free.is_due()
+        {
             self.gains.free.trade(&mut self.outs);
         }
     }
@@ -74,11 +69,11 @@ impl Worker {
         }
     }
 
-    // A filter hands the rows on with which a receiver of its own is done.
+    // What passes rows hands those on with which a receiver of its own is done.
     pub(super) fn pass_used(&mut self)
         ensures { self.new ≡ self.old }
     {
-        if !matches!(&self.operator_state, OperatorState::Filter(_)) {
+        if !self.operator_state.passes_rows() {
             return;
         }
         let from = self.rest.from;

@@ -3,17 +3,15 @@
 
 ghost use Rattle.std.specs.Prelude.{false, true, IfOk, OnErr, ◌&&◌, ◌+◌, ◌==◌, ◌^◌, ◌≡◌, ◌≤◌};
 ghost use Rattle.amber_worker.specs.RedoneRows.{GoesOrNot};
-ghost use Rattle.amber_worker.specs.Steps.{is_group};
-ghost use Rattle.amber_worker.specs.WorkerState.{WorkerState, steps_made};
+ghost use Rattle.amber_operators.specs.States.{is_group};
+ghost use Rattle.amber_worker.specs.WorkerState.{steps_made};
 
 use super::Worker;
 use crate::emitting::emit_many;
-use crate::operator_state::OperatorState;
-use crate::readied_rows::{may_go, ready_rows};
-use crate::redone_rows::{RowsLine, move_all};
-use crate::taking_ready::{feed_rows, reserve_line, take_rows};
-use crate::taking_rows::side_columns;
+use crate::line_judging::{may_go, reserve_line};
+use crate::redone_rows::RowsLine;
 use amber_log::Entry;
+use amber_operators::{feed_rows, move_all, ready_rows, side_columns, take_rows};
 use std::alloc::AllocError;
 
 // Whether the next row is waved on still, once so many rows were emitted.
@@ -68,13 +66,9 @@ impl Worker {
         ensures ok { IfOk result (GoesOrNot line self.old self.new) }
         ensures err { OnErr result (self.new ≡ self.old) }
     {
-        match &self.operator_state {
-            OperatorState::Group(_) => self.redo_grouped(line),
-            OperatorState::Scan
-            | OperatorState::Filter(_)
-            | OperatorState::Project(_)
-            | OperatorState::Join(_)
-            | OperatorState::Sink => self.redo_rows(line),
+        if self.operator_state.is_group() {
+            return self.redo_grouped(line);
         }
+        self.redo_rows(line)
     }
 }

@@ -7,10 +7,9 @@ ghost use Rattle.amber_worker.specs.AtPosition.{IsGivenOf, IsViewOf};
 
 use super::Worker;
 use crate::given::{Given, final_keys, given_of};
-use crate::operator_state::OperatorState;
-use crate::taking_rows::Gains;
-use crate::view_parts::{extra_of, first_copy, stand_of};
+use crate::view_parts::{first_copy, stand_of};
 use amber_meaning::WorkerView;
+use amber_operators::{Gains, OperatorState, extra_of};
 use std::alloc::{AllocError, Global};
 
 impl Worker {

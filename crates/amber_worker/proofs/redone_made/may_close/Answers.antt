@@ -1,6 +1,6 @@
 -- The numbers fit or not, and then the rows pass or not.
 use Rattle.std.proofs.Common.{arith}
-use Rattle.amber_worker.proofs.ReadiedFacts.{judged, looked-all, same-fits}
+use Rattle.amber_worker.proofs.Judged.{judged, looked-all, same-fits}
 use Rattle.amber_worker.proofs.redone_made.may_close.Goals as goal
 
 pub returns-then-lets_pending_by : goal.returns-then-lets_pending_by

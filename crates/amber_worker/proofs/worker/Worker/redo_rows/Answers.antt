@@ -1,15 +1,15 @@
 -- The line was judged, and then done.
-use Rattle.std.proofs.Common.{◌≡◌, ◌+◌, ◌++◌, [], false, true, ◌≤◌, ◌^◌, ◌∙◌, Option, drop, length, length-append, map, ap, refl, sym, arith, subst}
+use Rattle.std.proofs.Common.{◌≡◌, ◌+◌, ◌++◌, [], false, ◌≤◌, ◌^◌, ◌∙◌, Option, drop, length, length-append, map, ap, refl, sym, arith, subst}
 use Rattle.std.specs.Option.{IfSome, is_some}
 use Rattle.std.proofs.lemmas.List.{length-take-le}
 use Rattle.amber_link.specs.Sides.{without_room}
 use Rattle.amber_link.specs.declared.downstreams.Downstream.{Downstream}
 use Rattle.amber_scan.specs.Shares.{ShareState}
 use Rattle.amber_worker.specs.contracts.worker.Worker.{the_view}
-use Rattle.amber_worker.specs.Fields.{arrivals_in}
-use Rattle.amber_worker.specs.ReadiedRows.{Reading, yielded_to}
+use Rattle.amber_operators.specs.Handed.{arrivals_in}
+use Rattle.amber_operators.specs.ReadiedRows.{Reading, yielded_to}
 use Rattle.amber_worker.specs.RedoneRows.{MayNotGo}
-use Rattle.amber_worker.specs.Steps.{is_group}
+use Rattle.amber_operators.specs.States.{is_group}
 use Rattle.amber_worker.specs.WorkerState.{WorkerState, steps_made}
 use Rattle.amber_worker.proofs.Bounds.{few-sent, written-back}
 use Rattle.amber_worker.proofs.FewRows.{few-rows}

@@ -1,9 +1,10 @@
 use Rattle.std.proofs.Common.{◌^◌, ◌<◌, ◌&&◌, eqb, length, refl, ◌∙◌, ap, arith}
 use Rattle.amber_link.specs.Sides.{have_all_ended}
-use Rattle.amber_worker.specs.Fields.{arrivals_in}
-use Rattle.amber_worker.specs.Steps.{is_group, with_go}
+use Rattle.amber_operators.specs.Handed.{arrivals_in}
+use Rattle.amber_operators.specs.States.{is_group}
+use Rattle.amber_worker.specs.Steps.{with_go}
 use Rattle.amber_worker.proofs.Bounds.{few-row, takes-row}
-use Rattle.amber_worker.proofs.States.{may-take_row}
+use Rattle.amber_operators.proofs.States.{may-take_row}
 use Rattle.amber_link.specs.Links.{has_some}
 use Rattle.amber_link.proofs.LinkEnds.{none-first}
 use Rattle.amber_worker.specs.WorkerState.{WorkerState}
