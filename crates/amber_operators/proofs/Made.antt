@@ -8,7 +8,8 @@ use Rattle.amber_meaning.specs.State.{first_constants}
 use Rattle.amber_meaning.specs.Task.{Role, Task, built_of}
 use Rattle.amber_join.specs.Join.{Join}
 use Rattle.amber_link.specs.declared.upstreams.Upstream.{Upstream}
-use Rattle.amber_operators.specs.States.{IsInOrder, IsOperatorStateOf, DoesKind, KeepsRows}
+use Rattle.amber_operators.specs.Kept.{IsInOrder, KeepsRows}
+use Rattle.amber_operators.specs.States.{IsOperatorStateOf, DoesKind}
 use Rattle.amber_operators.specs.declared.operator_state.OperatorState.{OperatorState}
 use Rattle.amber_operators.specs.declared.operator_state.OperatorState.TheVariants as operator_state
 

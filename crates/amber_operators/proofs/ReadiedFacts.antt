@@ -14,7 +14,7 @@ use Rattle.amber_scan.specs.Shares.{ShareState}
 use Rattle.amber_scan.specs.declared.share.Scanned.{Scanned}
 use Rattle.amber_operators.specs.Handed.{arrival_of, arrivals_in, rest_in, row_from}
 use Rattle.amber_operators.specs.ReadiedRows.{AreBuiltReady, HasBuilt, Reading}
-use Rattle.amber_operators.specs.States.{keeps_build_side, keeps_still, is_plain}
+use Rattle.amber_operators.specs.Kept.{keeps_build_side, keeps_still, is_plain}
 use Rattle.amber_operators.specs.ManyRows.{BecomesWith, kept_among, kept_by, scan_refused, yielded_by, yielded_of, yielded_records}
 use Rattle.amber_operators.specs.Keeping.{built_with}
 use Rattle.amber_operators.specs.RowsTaken.{gives_if, keeps_if}

@@ -15,7 +15,8 @@ use Rattle.amber_meaning.specs.Task.{Arrival, Role, Task, built_of, is_builder, 
 use Rattle.amber_meaning.specs.Kinds.{closing_rows}
 use Rattle.amber_link.specs.Sides.{IsTaken, have_builders_ended}
 use Rattle.amber_link.specs.declared.upstreams.Upstream.{Upstream}
-use Rattle.amber_operators.specs.States.{IsInOrder, DoesKind, KeepsRows, Becomes, Closes, MayTakeRow, is_group, turned_to}
+use Rattle.amber_operators.specs.Kept.{Closes, is_group, IsInOrder, KeepsRows, MayTakeRow}
+use Rattle.amber_operators.specs.States.{DoesKind, Becomes, turned_to}
 use Rattle.amber_operators.specs.Keeping.{GivesGroups, built_with}
 use Rattle.amber_operators.specs.declared.operator_state.OperatorState.{OperatorState}
 use Rattle.amber_operators.specs.declared.operator_state.OperatorState.TheVariants as operator_state

@@ -2,6 +2,7 @@ pub use Rattle.amber_link.specs.Sides
 pub mod Handed
 pub mod Keeping
 pub mod States
+pub mod Kept
 pub mod RowsTaken
 pub mod Readied
 pub mod ManyRows

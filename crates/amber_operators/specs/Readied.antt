@@ -9,7 +9,8 @@ use Rattle.amber_meaning.specs.Task.{Arrival, row_in}
 use Rattle.amber_operators.specs.Handed.{arrivals_in, row_from}
 use Rattle.amber_operators.specs.Keeping.{Feeds, GivesGroups}
 use Rattle.amber_operators.specs.RowsTaken.{Advance, AreSame, Manner, gives_if, keeps_if, passed_of}
-use Rattle.amber_operators.specs.States.{Becomes, Closes}
+use Rattle.amber_operators.specs.Kept.{Closes}
+use Rattle.amber_operators.specs.States.{Becomes}
 use Rattle.amber_operators.specs.declared.operator_state.OperatorState.{OperatorState}
 use Rattle.amber_operators.specs.declared.readied.Readied.{Readied}
 use Rattle.amber_operators.specs.declared.taking_rows.Gains.{Gains}

@@ -4,7 +4,7 @@ use Rattle.amber_meaning.specs.Refused.{refused_in}
 use Rattle.amber_meaning.specs.Task.{Arrival}
 use Rattle.amber_operators.specs.Handed.{arrivals_in}
 use Rattle.amber_operators.specs.ManyRows.{BecomesWith, kept_by, passed_by, yielded_by, yielded_of, yielded_records}
-use Rattle.amber_operators.specs.States.{IsSealedSo, is_plain, keeps_build_side, keeps_still}
+use Rattle.amber_operators.specs.Kept.{IsSealedSo, is_plain, keeps_build_side, keeps_still}
 use Rattle.amber_operators.specs.declared.operator_state.OperatorState.{OperatorState}
 use Rattle.amber_operators.specs.declared.readied_rows.ReadiedRows.{ReadiedRows}
 use Rattle.amber_operators.specs.declared.redone_joins.MadeRows.{MadeRows}

@@ -5,7 +5,8 @@ use Rattle.amber_join.specs.Join.{Join}
 use Rattle.amber_meaning.specs.Refused.{refusal_in}
 use Rattle.amber_meaning.specs.Task.{Arrival, row_in}
 use Rattle.amber_operators.specs.Keeping.{Feeds, GivesGroups, built_with}
-use Rattle.amber_operators.specs.States.{Becomes, Closes, keeps, row_yield}
+use Rattle.amber_operators.specs.Kept.{Closes, keeps}
+use Rattle.amber_operators.specs.States.{Becomes, row_yield}
 use Rattle.amber_operators.specs.declared.operator_state.OperatorState.{OperatorState}
 use Rattle.amber_operators.specs.declared.taking_rows.Fate.{Fate}
 use Rattle.amber_operators.specs.declared.taking_rows.Gains.{Gains}

@@ -1,7 +1,7 @@
 //! What a worker keeps for its operator. Rests on the states of `amber_ops`, `amber_join` and `amber_group`.
 
 ghost use Rattle.std.specs.Prelude.{◌≡◌};
-ghost use Rattle.amber_operators.specs.States.{is_group};
+ghost use Rattle.amber_operators.specs.Kept.{is_group};
 
 use amber_group::GroupState;
 use amber_join::JoinState;

@@ -9,7 +9,8 @@ ghost use Rattle.amber_operators.specs.Handed.{arrivals_in};
 ghost use Rattle.amber_operators.specs.RowsTaken.{AreSame};
 ghost use Rattle.amber_operators.specs.Readied.{IsNextRow, IsReadied, StandsReady};
 ghost use Rattle.amber_operators.specs.Keeping.{GivesGroups};
-ghost use Rattle.amber_operators.specs.States.{MayTakeRow, is_plain};
+ghost use Rattle.amber_operators.specs.Kept.{is_plain};
+ghost use Rattle.amber_operators.specs.Kept.{MayTakeRow};
 
 use crate::grouping::rows_of_groups;
 use crate::operator_state::OperatorState;

@@ -5,7 +5,7 @@ ghost use Rattle.std.specs.Prelude.{◌≡◌, ◌-◌, ◌≤◌, ◌++◌, ◌
 ghost use Rattle.amber_rows.specs.declared.value.Value.{Value as Cell};
 ghost use Rattle.amber_operators.specs.Handed.{arrivals_in};
 ghost use Rattle.amber_operators.specs.ReadiedRows.{AreReadied, Reading, reading_with, yielded_to};
-ghost use Rattle.amber_operators.specs.States.{IsSealedSo, is_group};
+ghost use Rattle.amber_operators.specs.Kept.{IsSealedSo, is_group};
 ghost use Rattle.amber_operators.specs.ManyRows.{lets_by, yielded_by};
 ghost use Rattle.amber_operators.specs.declared.taking_rows.Rest.{Rest as OneRest};
 

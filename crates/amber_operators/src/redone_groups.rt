@@ -8,7 +8,7 @@ ghost use Rattle.amber_group.specs.Lines.{TakesLineBack};
 ghost use Rattle.amber_group.specs.Group.{Group};
 ghost use Rattle.amber_operators.specs.Keeping.{GivesGroups};
 ghost use Rattle.amber_operators.specs.ManyRows.{FeedsGroups, TakesFedBack};
-ghost use Rattle.amber_operators.specs.States.{Closes, is_group};
+ghost use Rattle.amber_operators.specs.Kept.{Closes, is_group};
 ghost use Rattle.amber_operators.specs.declared.operator_state.OperatorState.{OperatorState as OneState};
 
 use crate::operator_state::OperatorState;

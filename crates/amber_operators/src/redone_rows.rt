@@ -5,7 +5,7 @@ ghost use Rattle.std.specs.Prelude.{Ok, ◌≡◌, ◌+◌, ◌-◌, ◌<◌, �
 ghost use Rattle.std.specs.VecDeque.{deque_capacity, deque_len};
 ghost use Rattle.amber_operators.specs.ManyRows.{kept_among, passed_by, yielded_of};
 ghost use Rattle.amber_meaning.specs.Task.{row_in};
-ghost use Rattle.amber_operators.specs.States.{is_plain};
+ghost use Rattle.amber_operators.specs.Kept.{is_plain};
 ghost use Rattle.amber_operators.specs.RowsTaken.{keeps_if, passed_of};
 
 use crate::operator_state::OperatorState;

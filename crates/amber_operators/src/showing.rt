@@ -1,7 +1,8 @@
 //! What an operator shows of what it keeps, and the keys that it has refused at the end. Over `OperatorState` and `Gains`.
 
 ghost use Rattle.std.specs.Prelude.{IfOk, length};
-ghost use Rattle.amber_operators.specs.States.{IsExtra, IsRefused};
+ghost use Rattle.amber_operators.specs.Kept.{IsRefused};
+ghost use Rattle.amber_operators.specs.States.{IsExtra};
 
 use crate::operator_state::OperatorState;
 use crate::taking_rows::Gains;

@@ -10,7 +10,9 @@ ghost use Rattle.amber_link.specs.declared.upstreams.Upstream.{Upstream as OneUp
 ghost use Rattle.amber_link.specs.Sides.{have_all_ended};
 ghost use Rattle.amber_operators.specs.Handed.{arrivals_in};
 ghost use Rattle.amber_operators.specs.RowsTaken.{AreSame, GainsAny, GainsNext, GainsRecord, GainsRow, gives_if, passed_of};
-ghost use Rattle.amber_operators.specs.States.{Closes, MayTakeRow, is_group, is_plain, turned_to};
+ghost use Rattle.amber_operators.specs.Kept.{Closes, is_group, is_plain};
+ghost use Rattle.amber_operators.specs.Kept.{MayTakeRow};
+ghost use Rattle.amber_operators.specs.States.{turned_to};
 
 use crate::grouping::{rows_of_groups, take_grouped};
 use crate::joining::take_joined;

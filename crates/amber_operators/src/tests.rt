@@ -3,11 +3,12 @@
 ghost use Rattle.std.specs.Prelude.{◌≡◌, [], false, true, IfOk, None};
 ghost use Rattle.amber_link.specs.Links.{has_some};
 ghost use Rattle.amber_operators.specs.Handed.{arrivals_in};
-ghost use Rattle.amber_operators.specs.States.{MayTakeRow};
+ghost use Rattle.amber_operators.specs.Kept.{MayTakeRow};
 
 use crate::{
-    Gains, NoMemory, OperatorState, Pending, Rest, UsedRows, closing_of, extra_of, is_last,
-    keys_into, leave_readied, operator_state_of, ready_next, refused_keys, set_value, take_next,
+    Gains, NoMemory, OperatorState, Pending, Rest, UsedRows, closing_of, extra_of,
+    is_last, keys_into, leave_readied, operator_state_of, ready_next, refused_keys, set_value,
+    take_next,
 };
 use amber_meaning::Extra;
 use amber_ops::FilterState;
@@ -73,7 +74,7 @@ fn passed(alloc: Global, mut state: OperatorState, number: i64) -> Result<u64, N
     let columns = numbers(alloc)?;
     let over = is_last(&state, &rest, &[]);
     take_next(&mut rest, 2, &columns, false, over, &mut state, &mut gains)?;
-    Ok(gains.pending.len() + rest.left())
+    Ok(gains.pending.len())
 }
 
 #[test]

@@ -20,7 +20,8 @@ use Rattle.amber_link.specs.Links.{has_some}
 use Rattle.amber_worker.specs.Fields.{AreFew, WorkerFields, rows_moved}
 use Rattle.amber_operators.specs.Handed.{row_from}
 use Rattle.amber_worker.specs.WorkerState.{WorkerState, has_ready}
-use Rattle.amber_operators.specs.States.{Becomes, Closes, is_group, turned_to}
+use Rattle.amber_operators.specs.Kept.{Closes, is_group}
+use Rattle.amber_operators.specs.States.{Becomes, turned_to}
 use Rattle.amber_worker.specs.Steps.{Finishes, TakesBatch, TakesRow, columns_at_hand, gone_on, with_go}
 use Rattle.amber_operators.specs.RowsTaken.{gives_if, keeps_if}
 use Rattle.amber_operators.proofs.States.{closes-asked, closes-group, in_order-batch, in_order-row, in_order-settled}

@@ -13,7 +13,8 @@ use Rattle.amber_meaning.specs.Rules.{Leads}
 use Rattle.amber_meaning.specs.State.{let_go, restraint_released}
 use Rattle.amber_meaning.specs.Task.{Arrival, Role, Task}
 use Rattle.amber_worker.specs.AtPosition.{Context, IsAtPosition, Shows}
-use Rattle.amber_operators.specs.States.{DoesKind, KeepsRows, with_value}
+use Rattle.amber_operators.specs.Kept.{KeepsRows}
+use Rattle.amber_operators.specs.States.{DoesKind, with_value}
 use Rattle.amber_worker.specs.Changes.{ShowsDropped, ShowsSet, ShowsWatching, StandsAtLeg, at_leg_start, held_dropped, with_when}
 use Rattle.amber_worker.specs.WorkerState.{WorkerState}
 use Rattle.amber_worker.proofs.Apart.{shows-apart}

@@ -11,7 +11,8 @@ use Rattle.amber_scan.specs.Shares.{ShareState}
 use Rattle.amber_link.specs.declared.upstreams.Upstream.{Upstream}
 use Rattle.amber_link.specs.declared.downstreams.Downstream.{Downstream}
 use Rattle.amber_worker.specs.Fields.{AreFew, WorkerFields, rows_moved}
-use Rattle.amber_operators.specs.States.{IsInOrder, Becomes}
+use Rattle.amber_operators.specs.Kept.{IsInOrder}
+use Rattle.amber_operators.specs.States.{Becomes}
 use Rattle.amber_operators.specs.ManyRows.{BecomesWith}
 use Rattle.amber_operators.specs.declared.operator_state.OperatorState.{OperatorState}
 use Rattle.amber_operators.specs.declared.operator_state.OperatorState.TheVariants as operator_state

@@ -5,7 +5,9 @@ use Rattle.amber_rows.specs.declared.flow.What.{What}
 use Rattle.amber_rows.specs.declared.flow.What.TheVariants as what
 use Rattle.amber_meaning.specs.Task.{Arrival, Role, Task, rows_in}
 use Rattle.amber_meaning.specs.Kinds.{keys_refused}
-use Rattle.amber_operators.specs.States.{DoesKind, KeepsRows, IsRefused}
+use Rattle.amber_operators.specs.Kept.{IsRefused}
+use Rattle.amber_operators.specs.Kept.{KeepsRows}
+use Rattle.amber_operators.specs.States.{DoesKind}
 use Rattle.amber_worker.specs.AtPosition.{IsGivenOf, KeepsUnder}
 use Rattle.amber_worker.specs.WorkerState.{WorkerState}
 use Rattle.amber_worker.specs.declared.given.Given.{Given}

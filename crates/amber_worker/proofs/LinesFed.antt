@@ -19,7 +19,8 @@ use Rattle.amber_link.specs.declared.upstreams.Upstream.{Upstream}
 use Rattle.amber_operators.specs.Handed.{arrivals_in, rest_in, row_from}
 use Rattle.amber_worker.specs.RedoneRows.{BecomesTaking, MayGoFrom, MayGoOn, MayNotGo, Offer, ends_with, offered, yielded}
 use Rattle.amber_operators.specs.ManyRows.{FeedsGroups, BecomesWith, kept_by, yielded_by}
-use Rattle.amber_operators.specs.States.{IsInOrder, Closes, is_group}
+use Rattle.amber_operators.specs.Kept.{Closes, is_group}
+use Rattle.amber_operators.specs.Kept.{IsInOrder}
 use Rattle.amber_operators.specs.Keeping.{Feeds, GivesGroups}
 use Rattle.amber_worker.specs.Steps.{columns_at_hand}
 use Rattle.amber_operators.specs.RowsTaken.{gives_if, keeps_if}

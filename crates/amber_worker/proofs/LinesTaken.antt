@@ -15,7 +15,8 @@ use Rattle.amber_operators.specs.Handed.{arrivals_in}
 use Rattle.amber_worker.specs.Links.{IsHandedOn, OutputSide, number_to}
 use Rattle.amber_operators.specs.ReadiedRows.{AreReadied, FeedsReadied, IsUnfed, Reading}
 use Rattle.amber_worker.specs.RedoneRows.{StandingBy, offer_to, AreHandedOn, BecomesTaking, MayGoFrom, MayGoOn, MayNotGo, TakesLine, ends_with, offered, yielded}
-use Rattle.amber_operators.specs.States.{keeps_still, Becomes, Closes, is_group}
+use Rattle.amber_operators.specs.Kept.{keeps_still, Closes, is_group}
+use Rattle.amber_operators.specs.States.{Becomes}
 use Rattle.amber_operators.specs.ManyRows.{BecomesWith, kept_by}
 use Rattle.amber_operators.specs.Keeping.{built_with}
 use Rattle.amber_worker.specs.Steps.{columns_at_hand}

@@ -6,7 +6,7 @@ use Rattle.amber_link.specs.Sides.{AreLooked, IsLooked, Pairwise, have_all_ended
 use Rattle.amber_link.specs.declared.upstreams.Upstream.{Upstream}
 use Rattle.amber_link.proofs.Sides.{looked-then, pairwise-then}
 use Rattle.amber_worker.specs.AtPosition.{IsLookedAt}
-use Rattle.amber_operators.specs.States.{Closes}
+use Rattle.amber_operators.specs.Kept.{Closes}
 use Rattle.amber_worker.specs.Steps.{TakesBatch, batch_taken}
 use Rattle.amber_worker.specs.WorkerState.{WorkerState}
 

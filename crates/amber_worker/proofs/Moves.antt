@@ -21,7 +21,9 @@ use Rattle.amber_link.specs.Sides.{have_all_ended}
 use Rattle.amber_link.specs.declared.upstreams.Upstream.{Upstream}
 use Rattle.amber_worker.specs.Fields.{rows_moved}
 use Rattle.amber_worker.specs.AtPosition.{Context, KeepsUnder, ReceiveAll, Shows}
-use Rattle.amber_operators.specs.States.{DoesKind, KeepsRows, Becomes, Closes, row_yield, keeps}
+use Rattle.amber_operators.specs.Kept.{Closes, keeps}
+use Rattle.amber_operators.specs.Kept.{KeepsRows}
+use Rattle.amber_operators.specs.States.{DoesKind, Becomes, row_yield}
 use Rattle.amber_worker.specs.WorkerState.{WorkerState}
 use Rattle.amber_worker.specs.Steps.{columns_at_hand, row_taken}
 use Rattle.amber_operators.specs.RowsTaken.{gives_if, keeps_if}

@@ -11,7 +11,7 @@ use Rattle.amber_link.proofs.SameEnds.{receivers-same, senders-same}
 use Rattle.amber_link.proofs.Sides.{pairwise-at, pairwise-length}
 use Rattle.amber_worker.specs.AtPosition.{HasSameEnds, ReceiveAll}
 use Rattle.amber_worker.specs.Fields.{AreFew, WorkerFields}
-use Rattle.amber_operators.specs.States.{IsInOrder}
+use Rattle.amber_operators.specs.Kept.{IsInOrder}
 use Rattle.amber_worker.specs.Replacing.{ShowsReplaced, StandAlike, StandsReplaced, with_links_of}
 use Rattle.amber_worker.specs.WorkerState.{WorkerState}
 use Rattle.amber_operators.specs.declared.operator_state.OperatorState.{OperatorState}

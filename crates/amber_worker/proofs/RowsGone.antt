@@ -15,7 +15,9 @@ use Rattle.amber_meaning.specs.Task.{Arrival, Role, Task, columns_from, is_build
 use Rattle.amber_meaning.specs.Views.{taken_of}
 use Rattle.amber_link.specs.declared.downstreams.Downstream.{Downstream}
 use Rattle.amber_worker.specs.AtPosition.{Context, SendAll, Shows, output_at}
-use Rattle.amber_operators.specs.States.{DoesKind, KeepsRows, Closes, keeps}
+use Rattle.amber_operators.specs.Kept.{Closes, keeps}
+use Rattle.amber_operators.specs.Kept.{KeepsRows}
+use Rattle.amber_operators.specs.States.{DoesKind}
 use Rattle.amber_worker.specs.RedoneRows.{AreHandedOn, BecomesTaking, IsGivenLast, MayGoFrom, ends_with, rows_gone, yielded}
 use Rattle.amber_operators.specs.ManyRows.{kept_by}
 use Rattle.amber_worker.specs.Steps.{columns_at_hand}

@@ -16,7 +16,8 @@ use Rattle.amber_meaning.specs.Task.{Arrival, Role, Task, built_of, columns_from
 use Rattle.amber_meaning.specs.Views.{taken_of}
 use Rattle.amber_link.specs.Sides.{have_all_ended}
 use Rattle.amber_worker.specs.AtPosition.{Context, Shows}
-use Rattle.amber_operators.specs.States.{DoesKind, KeepsRows, Becomes, row_yield}
+use Rattle.amber_operators.specs.Kept.{KeepsRows}
+use Rattle.amber_operators.specs.States.{DoesKind, Becomes, row_yield}
 use Rattle.amber_worker.specs.RedoneRows.{BecomesTaking, IsGivenLast, ends_with, yielded}
 use Rattle.amber_operators.specs.ManyRows.{BecomesWith, yielded_by}
 use Rattle.amber_operators.specs.Keeping.{built_with}

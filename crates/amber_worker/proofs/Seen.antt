@@ -13,7 +13,8 @@ use Rattle.amber_meaning.specs.declared.answer.Refusal.{Refusal}
 use Rattle.amber_meaning.specs.declared.view.Extra.{Extra}
 use Rattle.amber_meaning.specs.declared.view.Extra.TheVariants as extra
 use Rattle.amber_meaning.specs.declared.view.WorkerView.{WorkerView}
-use Rattle.amber_operators.specs.States.{DoesKind, KeepsRows, IsExtra}
+use Rattle.amber_operators.specs.Kept.{KeepsRows}
+use Rattle.amber_operators.specs.States.{DoesKind, IsExtra}
 use Rattle.amber_worker.specs.AtPosition.{IsViewOf}
 use Rattle.amber_worker.specs.WorkerState.{WorkerState}
 use Rattle.amber_worker.specs.Steps.{IsShown}

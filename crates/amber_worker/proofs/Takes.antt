@@ -22,7 +22,8 @@ use Rattle.amber_worker.proofs.Settling.{Shows-relinked}
 use Rattle.amber_link.specs.declared.upstreams.Upstream.{Upstream}
 use Rattle.amber_operators.specs.Handed.{row_from}
 use Rattle.amber_worker.specs.AtPosition.{Context, IsAtPosition, KeepsUnder, ReceiveAll, Shows}
-use Rattle.amber_operators.specs.States.{DoesKind, Closes}
+use Rattle.amber_operators.specs.Kept.{Closes}
+use Rattle.amber_operators.specs.States.{DoesKind}
 use Rattle.amber_worker.specs.WorkerState.{WorkerState}
 use Rattle.amber_worker.specs.Steps.{batch_taken}
 use Rattle.amber_operators.specs.declared.operator_state.OperatorState.{OperatorState}

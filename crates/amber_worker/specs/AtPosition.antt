@@ -27,7 +27,8 @@ use Rattle.amber_operators.specs.Handed.{arrival_of}
 use Rattle.amber_worker.specs.Links.{number_to}
 use Rattle.amber_worker.specs.WorkerState.{WorkerState}
 use Rattle.amber_worker.specs.declared.given.Given.{Given}
-use Rattle.amber_operators.specs.States.{DoesKind, KeepsRows}
+use Rattle.amber_operators.specs.Kept.{KeepsRows}
+use Rattle.amber_operators.specs.States.{DoesKind}
 
 -- ---- a worker's place in a run
 

@@ -11,7 +11,8 @@ use Rattle.amber_operators.specs.declared.operator_state.OperatorState.{Operator
 use Rattle.amber_worker.specs.Links.{IsSoundRoute}
 use Rattle.amber_worker.specs.declared.flags.Flags.{Flags}
 use Rattle.amber_worker.specs.declared.route.Route.{Route}
-use Rattle.amber_operators.specs.States.{IsScan, IsInOrder}
+use Rattle.amber_operators.specs.Kept.{IsInOrder}
+use Rattle.amber_operators.specs.States.{IsScan}
 
 -- the rows that an entry takes and emits
 abbrev pub rows_moved : Entry → ℕ

@@ -9,7 +9,7 @@ use Rattle.amber_meaning.specs.Task.{Arrival}
 use Rattle.amber_link.specs.Sides.{have_all_ended}
 use Rattle.amber_link.specs.declared.downstreams.Downstream.{Downstream}
 use Rattle.amber_worker.specs.Links.{IsHandedOn, number_to}
-use Rattle.amber_operators.specs.States.{Closes}
+use Rattle.amber_operators.specs.Kept.{Closes}
 use Rattle.amber_worker.specs.Steps.{columns_at_hand}
 use Rattle.amber_worker.specs.WorkerState.{WorkerState}
 use Rattle.amber_operators.specs.declared.operator_state.OperatorState.{OperatorState}

@@ -25,7 +25,8 @@ use Rattle.amber_worker.specs.Links.{IsHandedOn, number_to}
 use Rattle.amber_worker.specs.WorkerState.{WorkerState, has_ready, is_armed}
 use Rattle.amber_operators.specs.declared.operator_state.OperatorState.{OperatorState}
 use Rattle.amber_operators.specs.RowsTaken.{gives_if, keeps_if}
-use Rattle.amber_operators.specs.States.{Becomes, turned_to, Closes, IsExtra, IsRefused}
+use Rattle.amber_operators.specs.Kept.{Closes, IsRefused}
+use Rattle.amber_operators.specs.States.{Becomes, turned_to, IsExtra}
 
 -- ---- rows
 

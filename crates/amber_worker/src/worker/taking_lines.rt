@@ -3,7 +3,7 @@
 
 ghost use Rattle.std.specs.Prelude.{false, true, IfOk, OnErr, ◌&&◌, ◌+◌, ◌==◌, ◌^◌, ◌≡◌, ◌≤◌};
 ghost use Rattle.amber_worker.specs.RedoneRows.{GoesOrNot};
-ghost use Rattle.amber_operators.specs.States.{is_group};
+ghost use Rattle.amber_operators.specs.Kept.{is_group};
 ghost use Rattle.amber_worker.specs.WorkerState.{steps_made};
 
 use super::Worker;

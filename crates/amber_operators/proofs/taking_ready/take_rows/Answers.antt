@@ -6,7 +6,7 @@ use Rattle.amber_scan.specs.Shares.{ShareState}
 use Rattle.amber_operators.specs.Handed.{arrival_of, arrivals_in, row_from}
 use Rattle.amber_operators.specs.ReadiedRows.{AreBuiltReady, AreKeptReady, AreMadeReady, AreRecordsReady, AreRowsReady, HasBuilt, IsUnfed, yielded_to}
 use Rattle.amber_operators.specs.ManyRows.{kept_among, kept_by, scan_refused, yielded_records}
-use Rattle.amber_operators.specs.States.{is_plain}
+use Rattle.amber_operators.specs.Kept.{is_plain}
 use Rattle.amber_operators.specs.declared.operator_state.OperatorState.{OperatorState}
 use Rattle.amber_operators.specs.declared.operator_state.OperatorState.TheVariants as operator_state
 use Rattle.amber_operators.specs.declared.taking_rows.Rest.{Rest}

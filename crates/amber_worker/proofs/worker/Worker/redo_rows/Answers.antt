@@ -9,7 +9,7 @@ use Rattle.amber_worker.specs.contracts.worker.Worker.{the_view}
 use Rattle.amber_operators.specs.Handed.{arrivals_in}
 use Rattle.amber_operators.specs.ReadiedRows.{Reading, yielded_to}
 use Rattle.amber_worker.specs.RedoneRows.{MayNotGo}
-use Rattle.amber_operators.specs.States.{is_group}
+use Rattle.amber_operators.specs.Kept.{is_group}
 use Rattle.amber_worker.specs.WorkerState.{WorkerState, steps_made}
 use Rattle.amber_worker.proofs.Bounds.{few-sent, written-back}
 use Rattle.amber_worker.proofs.FewRows.{few-rows}

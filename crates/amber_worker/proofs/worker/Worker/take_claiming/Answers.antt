@@ -5,7 +5,7 @@ use Rattle.amber_link.specs.Sides.{have_all_ended}
 use Rattle.amber_worker.specs.Counting.{DealsUnits, SeatSide, hand_in}
 use Rattle.amber_operators.specs.Handed.{arrivals_in}
 use Rattle.amber_worker.specs.Steps.{TakesRow}
-use Rattle.amber_operators.specs.States.{is_group}
+use Rattle.amber_operators.specs.Kept.{is_group}
 use Rattle.amber_worker.specs.Turning.{TurnsDealing}
 use Rattle.amber_worker.specs.WorkerState.{IsUnrestrained, WorkerState, is_starved}
 use Rattle.amber_worker.specs.declared.counting.Dealing.{Dealing}

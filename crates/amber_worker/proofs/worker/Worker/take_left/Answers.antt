@@ -1,7 +1,7 @@
 use Rattle.std.proofs.Common.{◌^◌, ◌<◌, ◌&&◌, eqb, length, refl, ◌∙◌, ap, arith}
 use Rattle.amber_link.specs.Sides.{have_all_ended}
 use Rattle.amber_operators.specs.Handed.{arrivals_in}
-use Rattle.amber_operators.specs.States.{is_group}
+use Rattle.amber_operators.specs.Kept.{is_group}
 use Rattle.amber_worker.specs.Steps.{with_go}
 use Rattle.amber_worker.proofs.Bounds.{few-row, takes-row}
 use Rattle.amber_operators.proofs.States.{may-take_row}
