@@ -7,3 +7,4 @@ pub mod RowsTaken
 pub mod Readied
 pub mod ManyRows
 pub mod ReadiedRows
+pub mod Yielding

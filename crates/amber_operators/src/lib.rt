@@ -45,6 +45,7 @@ pub mod showing;
 pub mod taking_ready;
 pub mod taking_rows;
 pub mod used_rows;
+pub mod yielding;
 
 pub use leaving::{leave_readied, take_readied};
 pub use letting_by::{Gate, lets_pending_by, lets_rows_by};
@@ -64,6 +65,7 @@ pub use taking_rows::{
     Fate, Gains, Rest, close, closes_at, closing_of, is_last, side_columns, take_next, turn_to,
 };
 pub use used_rows::UsedRows;
+pub use yielding::{Yielded, yield_of};
 
 #[cfg(test)]
 mod tests;

@@ -6,9 +6,9 @@ ghost use Rattle.amber_operators.specs.Handed.{arrivals_in};
 ghost use Rattle.amber_operators.specs.Kept.{MayTakeRow};
 
 use crate::{
-    Gains, NoMemory, OperatorState, Pending, Rest, UsedRows, closing_of, extra_of,
+    Gains, NoMemory, OperatorState, Pending, Rest, UsedRows, Yielded, closing_of, extra_of,
     is_last, keys_into, leave_readied, operator_state_of, ready_next, refused_keys, set_value,
-    take_next,
+    take_next, yield_of,
 };
 use amber_meaning::Extra;
 use amber_ops::FilterState;
@@ -85,6 +85,8 @@ fn filter_passes_what_meets_it(rt: HostRuntime) -> Result<(), Fail> {
         assert_eq!(rt; passed(alloc, state, number)?, want);
     }
     let mut state = OperatorState::Filter(FilterState::new(above_two()));
+    let row = Row::new(Vec::new(alloc));
+    assert!(rt; matches!(yield_of(&state, alloc, &row)?, Yielded::Nothing));
     set_value(&mut state, Value::Int(0));
     assert!(rt; state.passes_rows() && !state.makes_rows() && !state.is_group());
     Ok(())

@@ -1,15 +1,16 @@
 -- What is unread while operators are evaluated: the rows that will come of it, and how many.
 use Rattle.std.proofs.Common.{◌≡◌, ◌≢◌, ℕ, suc, ◌+◌, ◌-◌, ◌<◌, ◌≤◌, Bool, true, false, cond, eqb, List, [], ◌∷◌, ◌++◌, length, get_or, map, set, sum_by, filter, Option, Some, None, option_map, inl, inr, refl, sym, ap, ◌∙◌, arith}
 use Rattle.std.specs.Prelude.{slice_get, unwrap_or}
-use Rattle.std.proofs.lemmas.Bool.{cases_eq, ne_eqb}
+use Rattle.std.proofs.lemmas.Bool.{cases_Bool, cases_eq, ne_eqb}
 use Rattle.std.proofs.lemmas.List.{get_or-set_other, get_or-set_same, length-set, map-set}
 use Rattle.std.proofs.lemmas.List.Sums.{sum_by-append, sum_by-cons, sum_by-set}
 use Rattle.std.proofs.lemmas.Option.{slice_get-map, unwrap_or-slice_get}
 use Rattle.amber_rows.specs.Cond.{holds_of}
 use Rattle.amber_rows.specs.Kinds.{build_input, main_input}
 use Rattle.amber_rows.specs.Lists.{list_at}
-use Rattle.amber_rows.specs.Operators.{group_result, join_result, project_result, refused_keys}
+use Rattle.amber_rows.specs.Operators.{group_result, join_result, pick_cells, project_result, refused_keys}
 use Rattle.amber_rows.specs.Order.{sort_rows}
+use Rattle.amber_rows.specs.declared.cond.Cond.{Cond}
 use Rattle.amber_rows.specs.declared.value.Value.{Value}
 use Rattle.amber_rows.specs.declared.flow.What.{What}
 use Rattle.amber_rows.specs.declared.flow.What.TheVariants as what
@@ -20,19 +21,19 @@ use Rattle.amber_plain.specs.Unread.{HasInputs, HasOne, Records, Waiting, nothin
 use Rattle.amber_plain.specs.Stages.{count_through, rows_after, rows_through}
 use Rattle.amber_plain.specs.Steps.{others_of, unread_of, read_for, refused_now, through}
 use Rattle.amber_plain.specs.declared.stage.Source.TheVariants as source
-use Rattle.amber_plain.specs.declared.stage.Stage.{Stage}
-use Rattle.amber_plain.specs.declared.stage.Stage.TheVariants as stage
+use Rattle.amber_operators.specs.declared.operator_state.OperatorState.{OperatorState}
+use Rattle.amber_operators.specs.declared.operator_state.OperatorState.TheVariants as operator_state
 use Rattle.amber_plain.proofs.Inputs.{one_read, read_count, reads_none, reads_other}
 use Rattle.amber_plain.proofs.Passing.{count_through-none}
 
 -- ---- one stage more
 
-through-rows : (stages : List Stage) (one : Stage) (rows : List (List Value)) → rows_through (stages ++ one ∷ []) rows ≡ rows_after one (rows_through stages rows)
+through-rows : (stages : List OperatorState) (one : OperatorState) (rows : List (List Value)) → rows_through (stages ++ one ∷ []) rows ≡ rows_after one (rows_through stages rows)
 unfolding rows_through
 through-rows [] one rows = refl
 through-rows (first ∷ later) one rows = through-rows later one (rows_after first rows)
 
-through-count : (stages : List Stage) (one : Stage) (rows : List (List Value))
+through-count : (stages : List OperatorState) (one : OperatorState) (rows : List (List Value))
     → count_through (stages ++ one ∷ []) rows ≡ count_through stages rows + length (rows_after one (rows_through stages rows))
 unfolding rows_through count_through
 through-count [] one rows = refl
@@ -181,20 +182,35 @@ others-read (what.Sink input) waiting op h reads = taken-own waiting input op h.
 
 -- ---- what is unread for the next operator
 
+-- a filter's stage keeps the rows of which its condition holds
+filtered : (test : Cond) (rows : List (List Value)) → rows_after (operator_state.Filter test) rows ≡ filter (holds_of test) rows
+filtered test [] = refl
+filtered test (row ∷ later) =
+    elim (cases_Bool (holds_of test row)) [
+      | inl met ↦ rw met (ap (λ rest. row ∷ rest) (filtered test later))
+      | inr unmet ↦ rw unmet (filtered test later)
+    ]
+
+-- a projection's stage makes a row of each
+picked : (from : List ℕ) (rows : List (List Value)) → rows_after (operator_state.Project from) rows ≡ project_result from rows
+unfolding project_result
+picked from [] = refl
+picked from (row ∷ later) = ap (λ rest. pick_cells from row ∷ rest) (picked from later)
+
 -- its rows are those of the definition
 pub next-unread : (records : Records) (op : ℕ) (kind : What) (waiting : List Waiting)
     → unread_rows records (unread_of records op kind waiting) ≡ rows_of kind (list_at records op) (lists_of records waiting)
-unfolding rows_through
+unfolding rows_through join_result
 next-unread records op (what.Scan file) waiting = refl
 next-unread records op (what.Filter input test) waiting =
     let unread = unread_at waiting input in
-    through-rows unread.stages (stage.Filter test) (source_rows records unread.source) ∙ ap (λ rows. filter (holds_of test) rows) (sym (list_at-lists records waiting input))
+    through-rows unread.stages (operator_state.Filter test) (source_rows records unread.source) ∙ filtered test (unread_rows records unread) ∙ ap (λ rows. filter (holds_of test) rows) (sym (list_at-lists records waiting input))
 next-unread records op (what.Project input from) waiting =
     let unread = unread_at waiting input in
-    through-rows unread.stages (stage.Project from) (source_rows records unread.source) ∙ ap (λ rows. project_result from rows) (sym (list_at-lists records waiting input))
+    through-rows unread.stages (operator_state.Project from) (source_rows records unread.source) ∙ picked from (unread_rows records unread) ∙ ap (λ rows. project_result from rows) (sym (list_at-lists records waiting input))
 next-unread records op (what.Join build probe build_keys probe_keys) waiting =
     let unread = unread_at waiting probe in
-    through-rows unread.stages (stage.Probe (record { build_keys = build_keys; probe_keys = probe_keys; rows = unread_rows records (unread_at waiting build); sealed = true })) (source_rows records unread.source)
+    through-rows unread.stages (operator_state.Join (record { build_keys = build_keys; probe_keys = probe_keys; rows = unread_rows records (unread_at waiting build); sealed = true })) (source_rows records unread.source)
     ∙ ap (λ rows. join_result build_keys probe_keys rows (unread_rows records unread)) (sym (list_at-lists records waiting build))
     ∙ ap (λ rows. join_result build_keys probe_keys (list_at (lists_of records waiting) build) rows) (sym (list_at-lists records waiting probe))
 next-unread records op (what.Group input keys aggs) waiting = ap (λ rows. group_result keys aggs rows) (sym (list_at-lists records waiting input))
@@ -211,7 +227,7 @@ next-refused records op (what.Group input keys aggs) waiting = ap (λ rows. refu
 next-refused records op (what.Sink input) waiting = refl
 
 -- one stage more owes the rows that it makes
-owed-through : (records : Records) (waiting : List Waiting) (input : ℕ) (one : Stage) → HasOne waiting input
+owed-through : (records : Records) (waiting : List Waiting) (input : ℕ) (one : OperatorState) → HasOne waiting input
     → owed records (without waiting input ++ through (unread_at waiting input) one ∷ []) ≡ owed records waiting + length (unread_rows records (through (unread_at waiting input) one))
 owed-through records waiting input one h =
     let unread = unread_at waiting input in
@@ -233,10 +249,10 @@ pub next-owed : (records : Records) (op : ℕ) (kind : What) (waiting : List Wai
     ≡ owed records waiting + length (unread_rows records (unread_of records op kind waiting))
 unfolding rows_through count_through
 next-owed records op (what.Scan file) waiting h = omega (arith, owed-push records waiting (record { source = source.Scan op; stages = [] }))
-next-owed records op (what.Filter input test) waiting h = omega (arith, owed-through records waiting input (stage.Filter test) h.1, nothing_unread-count records)
-next-owed records op (what.Project input from) waiting h = omega (arith, owed-through records waiting input (stage.Project from) h.1, nothing_unread-count records)
+next-owed records op (what.Filter input test) waiting h = omega (arith, owed-through records waiting input (operator_state.Filter test) h.1, nothing_unread-count records)
+next-owed records op (what.Project input from) waiting h = omega (arith, owed-through records waiting input (operator_state.Project from) h.1, nothing_unread-count records)
 next-owed records op (what.Join build probe build_keys probe_keys) waiting h =
-    let one = stage.Probe (record { build_keys = build_keys; probe_keys = probe_keys; rows = unread_rows records (unread_at waiting build); sealed = true }) in
+    let one = operator_state.Join (record { build_keys = build_keys; probe_keys = probe_keys; rows = unread_rows records (unread_at waiting build); sealed = true }) in
     let has = probe-there waiting build probe h.1 in
     let same : unread_at (without waiting build) probe ≡ unread_at waiting probe = taken-other waiting build probe h.1.0 h.0.0 (λ e. h.2 (sym e)) in
     let made = rw same at (owed-through records (without waiting build) probe one has) in

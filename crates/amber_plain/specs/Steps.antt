@@ -13,8 +13,8 @@ use Rattle.amber_plain.specs.Unread.{Records, Waiting, nothing_unread, unread_at
 use Rattle.amber_plain.specs.declared.evaluator.Evaluated.{Evaluated}
 use Rattle.amber_plain.specs.declared.stage.Source.{Source}
 use Rattle.amber_plain.specs.declared.stage.Source.TheVariants as source
-use Rattle.amber_plain.specs.declared.stage.Stage.{Stage}
-use Rattle.amber_plain.specs.declared.stage.Stage.TheVariants as stage
+use Rattle.amber_operators.specs.declared.operator_state.OperatorState.{OperatorState}
+use Rattle.amber_operators.specs.declared.operator_state.OperatorState.TheVariants as operator_state
 
 -- the refusals of each operator, once a source was read
 abbrev pub told_by : Records → List (List Refusal) → Source → List (List Refusal)
@@ -22,7 +22,7 @@ told_by records told (source.Rows rows) = told
 told_by records told (source.Scan op) = slice_set told (op - 1) (refused_records op 1 (list_at records op))
 
 -- one stage more
-abbrev pub through : Waiting → Stage → Waiting
+abbrev pub through : Waiting → OperatorState → Waiting
 through unread stage = record { source = unread.source; stages = unread.stages ++ stage ∷ [] }
 
 -- what is read, to its end: the build side of a join, and the input of a group or a sink
@@ -37,11 +37,11 @@ read_for (what.Sink input) waiting = unread_at waiting input
 -- what is unread for the operator with this number then
 abbrev pub unread_of : Records → ℕ → What → List Waiting → Waiting
 unread_of records op (what.Scan file) waiting = record { source = source.Scan op; stages = [] }
-unread_of records op (what.Filter input cond) waiting = through (unread_at waiting input) (stage.Filter cond)
-unread_of records op (what.Project input from) waiting = through (unread_at waiting input) (stage.Project from)
+unread_of records op (what.Filter input cond) waiting = through (unread_at waiting input) (operator_state.Filter cond)
+unread_of records op (what.Project input from) waiting = through (unread_at waiting input) (operator_state.Project from)
 unread_of records op (what.Join build probe build_keys probe_keys) waiting =
     through (unread_at waiting probe)
-    (stage.Probe (record { build_keys = build_keys; probe_keys = probe_keys; rows = unread_rows records (unread_at waiting build); sealed = true }))
+    (operator_state.Join (record { build_keys = build_keys; probe_keys = probe_keys; rows = unread_rows records (unread_at waiting build); sealed = true }))
 unread_of records op (what.Group input keys aggs) waiting =
     record { source = source.Rows (group_result keys aggs (unread_rows records (unread_at waiting input))); stages = [] }
 unread_of records op (what.Sink input) waiting = record { source = source.Rows (sort_rows (unread_rows records (unread_at waiting input))); stages = [] }

@@ -10,7 +10,7 @@ use Rattle.amber_rows.specs.declared.flow.What.{What}
 use Rattle.amber_plain.specs.Stages.{count_through, rows_through}
 use Rattle.amber_plain.specs.declared.stage.Source.{Source}
 use Rattle.amber_plain.specs.declared.stage.Source.TheVariants as source
-use Rattle.amber_plain.specs.declared.stage.Stage.{Stage}
+use Rattle.amber_operators.specs.declared.operator_state.OperatorState.{OperatorState}
 
 -- the typed records of each operator's file
 abbrev pub Records : Type 0
@@ -19,7 +19,7 @@ Records = List (List (Result (List Value) RowFault))
 -- a source, and the stages after it
 pub record Waiting : Type 0 where
   pub source : Source
-  pub stages : List Stage
+  pub stages : List OperatorState
 
 abbrev pub nothing_unread : Waiting
 nothing_unread = record { source = source.Rows []; stages = [] }

@@ -7,7 +7,8 @@ ghost use Rattle.amber_plain.specs.Stages.{count_through, rows_through};
 use crate::holder::Holder;
 use crate::limit::LimitErr;
 use crate::stage::Stage;
-use amber_rows::{Row, holds};
+use amber_operators::Yielded;
+use amber_rows::Row;
 use std::alloc::Global;
 
 /// Stages, what stands after the last of them, and how many rows may still come.
@@ -77,21 +78,11 @@ fn pass(
         holder.take(alloc, row)?;
         return Ok(());
     };
-    match stage {
-        Stage::Filter(cond) => {
-            if !holds(cond, row) {
-                return Ok(());
-            }
-            pass(alloc, row, later, holder, left)
-        }
-        Stage::Project(columns) => {
-            let mut cells = row.pick(alloc, columns)?;
-            pass(alloc, &mut cells, later, holder, left)
-        }
-        Stage::Probe(built) => {
-            let matches = built.probe(alloc, row)?;
-            pass_all(alloc, matches.into_inner(), later, holder, left)
-        }
+    match stage.give(alloc, row)? {
+        Yielded::Nothing => Ok(()),
+        Yielded::Same => pass(alloc, row, later, holder, left),
+        Yielded::Other(mut made) => pass(alloc, &mut made, later, holder, left),
+        Yielded::Many(made) => pass_all(alloc, made.into_inner(), later, holder, left),
     }
 }
 

@@ -11,10 +11,9 @@ ghost use Rattle.amber_plain.specs.Holding.{Spends};
 ghost use Rattle.amber_plain.specs.Unread.{HasInputs, HasOne, unread_at, unread_count, unread_rows, without};
 ghost use Rattle.amber_plain.specs.Steps.{others_of, evaluated_of, read_for, through, told_by};
 ghost use Rattle.amber_plain.specs.declared.stage.Source.TheVariants as source;
-ghost use Rattle.amber_plain.specs.declared.stage.Stage.TheVariants as stage;
+ghost use Rattle.amber_operators.specs.declared.operator_state.OperatorState.TheVariants as operator_state;
 
 use crate::drain::{Tally, gathered, grouped};
-use crate::joining::Built;
 use crate::limit::LimitErr;
 use crate::stage::{Source, Stage};
 use crate::unread::{Unread, take};
@@ -123,20 +122,20 @@ fn built(
     keys: (&Cols, &Cols),
     unread: Unread,
     tally: &mut Tally,
-) -> Result<Built, LimitErr>
-    ensures built { IfOk result (λ built. built ≡ record {
+) -> Result<Stage, LimitErr>
+    ensures built { IfOk result (λ built. built ≡ operator_state.Join (record {
       build_keys = keys.entry.0.now;
       probe_keys = keys.entry.1.now;
       rows = unread_rows (records_of files.now flow.now) unread;
       sealed = true;
-    }) }
+    })) }
     ensures left { Spends result tally.old.left tally.new.left
         (unread_count (records_of files.now flow.now) unread) }
     ensures told { OnOk result (tally.new.told.items
         ≡ told_by (records_of files.now flow.now) tally.old.told.items unread.source) }
 {
     let rows = gathered(alloc, flow, files, unread, tally)?;
-    let built = Built::new(alloc, keys.0, keys.1, rows)?;
+    let built = Stage::join(alloc, keys.0, keys.1, rows)?;
     Ok(built)
 }
 
@@ -161,8 +160,10 @@ pub fn evaluate(
 {
     match kind {
         What::Scan { .. } => Ok(unrefused(alloc, Unread::new(alloc, Source::Scan(op)))),
-        What::Filter { input, cond } => with_stage(alloc, waiting, *input, Stage::test(cond)?),
-        What::Project { input, from } => with_stage(alloc, waiting, *input, Stage::pick(from)?),
+        What::Filter { input, cond } => with_stage(alloc, waiting, *input, Stage::filter(cond)?),
+        What::Project { input, from } => {
+            with_stage(alloc, waiting, *input, Stage::project(alloc, from)?)
+        }
         What::Join {
             build,
             probe,
@@ -171,7 +172,7 @@ pub fn evaluate(
         } => {
             let build = take(alloc, waiting, *build);
             let built = built(alloc, flow, files, (build_keys, probe_keys), build, tally)?;
-            with_stage(alloc, waiting, *probe, Stage::Probe(built))
+            with_stage(alloc, waiting, *probe, built)
         }
         What::Group { input, keys, aggs } => {
             let unread = take(alloc, waiting, *input);

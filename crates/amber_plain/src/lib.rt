@@ -35,7 +35,6 @@ mod drain;
 mod evaluator;
 mod grouping;
 mod holder;
-mod joining;
 mod limit;
 mod scan;
 mod stage;

@@ -2,8 +2,7 @@
 use Rattle.std.proofs.Common.{◌≡◌, ◌∷◌, ◌++◌, [], Err, append_assoc, arith, sym, ap, ◌∙◌, rules}
 use Rattle.std.proofs.lemmas.List.{nil_from_length}
 use Rattle.amber_plain.specs.Stages.{count_through, rows_through}
-use Rattle.amber_plain.specs.declared.stage.Stage.TheVariants as stage
-use Rattle.amber_plain.proofs.Passing.{Takes-more, Takes-none, count_some, count_through-append, count_through-none, count_within, dropped, kept, passed, picked, probed, rows_through-append, rows_through-none, short_after, short_of_more, spent}
+use Rattle.amber_plain.proofs.Passing.{Takes-more, Takes-none, count_some, count_through-append, count_through-none, count_within, given-by, passed, rows_through-append, rows_through-none, short_after, short_of_more, spent}
 use Rattle.amber_plain.proofs.chain.+pass.Goals as goal
 
 pub pass-returns-in_err-spend-clause-left : goal.pass-returns-in_err-spend-clause-left
@@ -23,63 +22,61 @@ pass-returns-in_default-clause-left t c =
     let none = nil_from_length c.args.stages.now c.in_default.ensures.cases in
     rw none c.in_ok-spend.ensures
 
-pub pass-returns-then-not-holds-clause-taken : goal.pass-returns-then-not-holds-clause-taken
-pass-returns-then-not-holds-clause-taken t c =
+pub pass-returns-in-Nothing-clause-taken : goal.pass-returns-in-Nothing-clause-taken
+pass-returns-in-Nothing-clause-taken t c =
     let later = c.in-Some.later.now in
-    let whole : c.args.stages.now ≡ stage.Filter c.in-Filter.cond ∷ later = c.in-Some.ensures.cases.0 ∙ ap (λ one. one ∷ later) c.in-Filter.is in
-    let s = dropped c.in-Filter.cond later c.args.row.now (sym c.holds.ensures ∙ c.if-not-holds.true) in
+    let whole = c.in-Some.ensures.cases.0 in
+    let s = given-by c.in-Some.stage.now later c.args.row.now [] (rw c.in-Nothing.is at c.in_ok-give.ensures) in
     rw (whole, s.rows, rows_through-none later) (Takes-none c.args.holder.now)
 
-pub pass-returns-then-not-holds-clause-left : goal.pass-returns-then-not-holds-clause-left
-pass-returns-then-not-holds-clause-left t c =
+pub pass-returns-in-Nothing-clause-left : goal.pass-returns-in-Nothing-clause-left
+pass-returns-in-Nothing-clause-left t c =
     let later = c.in-Some.later.now in
-    let whole : c.args.stages.now ≡ stage.Filter c.in-Filter.cond ∷ later = c.in-Some.ensures.cases.0 ∙ ap (λ one. one ∷ later) c.in-Filter.is in
-    let s = dropped c.in-Filter.cond later c.args.row.now (sym c.holds.ensures ∙ c.if-not-holds.true) in
+    let whole = c.in-Some.ensures.cases.0 in
+    let s = given-by c.in-Some.stage.now later c.args.row.now [] (rw c.in-Nothing.is at c.in_ok-give.ensures) in
     rw (whole, s.count, count_through-none later) c.in_ok-spend.ensures
 
-pub pass-returns-else-not-holds-clause-taken : goal.pass-returns-else-not-holds-clause-taken
-pass-returns-else-not-holds-clause-taken t c =
+pub pass-returns-in-Same-clause-taken : goal.pass-returns-in-Same-clause-taken
+pass-returns-in-Same-clause-taken t c =
     let later = c.in-Some.later.now in
-    let whole : c.args.stages.now ≡ stage.Filter c.in-Filter.cond ∷ later = c.in-Some.ensures.cases.0 ∙ ap (λ one. one ∷ later) c.in-Filter.is in
-    let s = kept c.in-Filter.cond later c.args.row.now (sym c.holds.ensures ∙ c.if-not-holds.false) in
+    let whole = c.in-Some.ensures.cases.0 in
+    let s = given-by c.in-Some.stage.now later c.args.row.now (c.args.row.now ∷ []) (rw c.in-Same.is at c.in_ok-give.ensures) in
     rw whole (passed c.pass.result c.args.holder.now c.pass.new.holder _ later c.args.row.now _ s c.pass.ensures.taken)
 
-pub pass-returns-else-not-holds-clause-left : goal.pass-returns-else-not-holds-clause-left
-pass-returns-else-not-holds-clause-left t c =
+pub pass-returns-in-Same-clause-left : goal.pass-returns-in-Same-clause-left
+pass-returns-in-Same-clause-left t c =
     let later = c.in-Some.later.now in
-    let whole : c.args.stages.now ≡ stage.Filter c.in-Filter.cond ∷ later = c.in-Some.ensures.cases.0 ∙ ap (λ one. one ∷ later) c.in-Filter.is in
-    let s = kept c.in-Filter.cond later c.args.row.now (sym c.holds.ensures ∙ c.if-not-holds.false) in
+    let whole = c.in-Some.ensures.cases.0 in
+    let s = given-by c.in-Some.stage.now later c.args.row.now (c.args.row.now ∷ []) (rw c.in-Same.is at c.in_ok-give.ensures) in
     rw whole (spent c.pass.result _ later c.args.row.now _ c.args.left.now c.spend.new.left c.pass.new.left s c.in_ok-spend.ensures c.pass.ensures.left)
 
-pub pass-returns-in_ok-cells-in-Project-clause-taken : goal.pass-returns-in_ok-cells-in-Project-clause-taken
-pass-returns-in_ok-cells-in-Project-clause-taken t c =
+pub pass-returns-in-Other-clause-taken : goal.pass-returns-in-Other-clause-taken
+pass-returns-in-Other-clause-taken t c =
     let later = c.in-Some.later.now in
-    let whole : c.args.stages.now ≡ stage.Project c.in-Project.columns ∷ later = c.in-Some.ensures.cases.0 ∙ ap (λ one. one ∷ later) c.in-Project.is in
-    let s = picked c.in-Project.columns later c.args.row.now in
-    rw whole (passed c.pass-in-Project.result c.args.holder.now c.pass-in-Project.new.holder _ later c.args.row.now _ s (rw c.in_ok-cells-in-Project.ensures at c.pass-in-Project.ensures.taken))
+    let whole = c.in-Some.ensures.cases.0 in
+    let s = given-by c.in-Some.stage.now later c.args.row.now (c.in-Other.made ∷ []) (rw c.in-Other.is at c.in_ok-give.ensures) in
+    rw whole (passed c.pass-in-Other.result c.args.holder.now c.pass-in-Other.new.holder _ later c.args.row.now _ s c.pass-in-Other.ensures.taken)
 
-pub pass-returns-in_ok-cells-in-Project-clause-left : goal.pass-returns-in_ok-cells-in-Project-clause-left
-pass-returns-in_ok-cells-in-Project-clause-left t c =
+pub pass-returns-in-Other-clause-left : goal.pass-returns-in-Other-clause-left
+pass-returns-in-Other-clause-left t c =
     let later = c.in-Some.later.now in
-    let whole : c.args.stages.now ≡ stage.Project c.in-Project.columns ∷ later = c.in-Some.ensures.cases.0 ∙ ap (λ one. one ∷ later) c.in-Project.is in
-    let s = picked c.in-Project.columns later c.args.row.now in
-    rw whole (spent c.pass-in-Project.result _ later c.args.row.now _ c.args.left.now c.spend.new.left c.pass-in-Project.new.left s c.in_ok-spend.ensures
-    (rw c.in_ok-cells-in-Project.ensures at c.pass-in-Project.ensures.left))
+    let whole = c.in-Some.ensures.cases.0 in
+    let s = given-by c.in-Some.stage.now later c.args.row.now (c.in-Other.made ∷ []) (rw c.in-Other.is at c.in_ok-give.ensures) in
+    rw whole (spent c.pass-in-Other.result _ later c.args.row.now _ c.args.left.now c.spend.new.left c.pass-in-Other.new.left s c.in_ok-spend.ensures c.pass-in-Other.ensures.left)
 
-pub pass-returns-in_ok-matches-in-Probe-clause-taken : goal.pass-returns-in_ok-matches-in-Probe-clause-taken
-pass-returns-in_ok-matches-in-Probe-clause-taken t c =
+pub pass-returns-in-Many-clause-taken : goal.pass-returns-in-Many-clause-taken
+pass-returns-in-Many-clause-taken t c =
     let later = c.in-Some.later.now in
-    let whole : c.args.stages.now ≡ stage.Probe c.in-Probe.built ∷ later = c.in-Some.ensures.cases.0 ∙ ap (λ one. one ∷ later) c.in-Probe.is in
-    let s = probed c.in-Probe.built later c.args.row.now in
-    rw whole (passed c.pass_all.result c.args.holder.now c.pass_all.new.holder _ later c.args.row.now _ s (rw (c.into_inner.ensures, c.in_ok-matches-in-Probe.ensures) at c.pass_all.ensures.taken))
+    let whole = c.in-Some.ensures.cases.0 in
+    let s = given-by c.in-Some.stage.now later c.args.row.now c.in-Many.made (rw c.in-Many.is at c.in_ok-give.ensures) in
+    rw whole (passed c.pass_all.result c.args.holder.now c.pass_all.new.holder _ later c.args.row.now _ s (rw c.into_inner.ensures at c.pass_all.ensures.taken))
 
-pub pass-returns-in_ok-matches-in-Probe-clause-left : goal.pass-returns-in_ok-matches-in-Probe-clause-left
-pass-returns-in_ok-matches-in-Probe-clause-left t c =
+pub pass-returns-in-Many-clause-left : goal.pass-returns-in-Many-clause-left
+pass-returns-in-Many-clause-left t c =
     let later = c.in-Some.later.now in
-    let whole : c.args.stages.now ≡ stage.Probe c.in-Probe.built ∷ later = c.in-Some.ensures.cases.0 ∙ ap (λ one. one ∷ later) c.in-Probe.is in
-    let s = probed c.in-Probe.built later c.args.row.now in
-    rw whole (spent c.pass_all.result _ later c.args.row.now _ c.args.left.now c.spend.new.left c.pass_all.new.left s c.in_ok-spend.ensures
-    (rw (c.into_inner.ensures, c.in_ok-matches-in-Probe.ensures) at c.pass_all.ensures.left))
+    let whole = c.in-Some.ensures.cases.0 in
+    let s = given-by c.in-Some.stage.now later c.args.row.now c.in-Many.made (rw c.in-Many.is at c.in_ok-give.ensures) in
+    rw whole (spent c.pass_all.result _ later c.args.row.now _ c.args.left.now c.spend.new.left c.pass_all.new.left s c.in_ok-spend.ensures (rw c.into_inner.ensures at c.pass_all.ensures.left))
 
 pub pass_all-loop-row-init : goal.pass_all-loop-row-init
 pass_all-loop-row-init t c = record {

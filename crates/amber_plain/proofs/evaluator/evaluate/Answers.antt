@@ -2,7 +2,8 @@
 use Rattle.std.proofs.Common.{◌≡◌, ◌∙◌, ◌+◌, [], Result, Ok, Err, IfErr, OnOk, ℕ, ap, arith, refl, sym, true}
 use Rattle.std.proofs.lemmas.Result.{IfOk-from_err, err_from_is_err_and}
 use Rattle.amber_plain.proofs.Passing.{count_through-none}
-use Rattle.amber_join.specs.Join.{Join}
+use Rattle.amber_operators.specs.declared.operator_state.OperatorState.{OperatorState}
+use Rattle.amber_operators.specs.declared.operator_state.OperatorState.TheVariants as operator_state
 use Rattle.amber_meaning.specs.Plain.{records_of}
 use Rattle.amber_plain.specs.declared.limit.LimitErr.{LimitErr}
 use Rattle.amber_plain.specs.declared.limit.LimitErr.TheVariants as limit_err
@@ -30,16 +31,16 @@ returns-in-Scan c = record {
   left = rw c.in-Scan.is (omega (arith, count_through-none []));
 }
 
-pub returns-in_err-test-in-Filter : goal.returns-in_err-test-in-Filter
-returns-in_err-test-in-Filter c =
+pub returns-in_err-filter-in-Filter : goal.returns-in_err-filter-in-Filter
+returns-in_err-filter-in-Filter c =
     let e = c.from_residual.ensures in
     let p = err_from_is_err_and c.from_residual.result e.1 in
     record { new = IfOk-from_err _ _ e.0; others = IfOk-from_err _ _ e.0; told = IfOk-from_err _ _ e.0; left = rw (p.1, p.2) tt }
 
-pub returns-in_err-pick-in-Project : goal.returns-in_err-pick-in-Project
-returns-in_err-pick-in-Project c =
-    let e = c.from_residual-in_err-pick-in-Project.ensures in
-    let p = err_from_is_err_and c.from_residual-in_err-pick-in-Project.result e.1 in
+pub returns-in_err-project-in-Project : goal.returns-in_err-project-in-Project
+returns-in_err-project-in-Project c =
+    let e = c.from_residual-in_err-project-in-Project.ensures in
+    let p = err_from_is_err_and c.from_residual-in_err-project-in-Project.result e.1 in
     record { new = IfOk-from_err _ _ e.0; others = IfOk-from_err _ _ e.0; told = IfOk-from_err _ _ e.0; left = rw (p.1, p.2) tt }
 
 pub returns-in_err-built-in-Join : goal.returns-in_err-built-in-Join
@@ -80,17 +81,17 @@ returns-in-Sink c = record {
   left = rw (c.in-Sink.is, ← c.take.ensures.taken) c.sorted.ensures.left;
 }
 
-pub returns-in_ok-test-in-Filter : goal.returns-in_ok-test-in-Filter
-returns-in_ok-test-in-Filter c = record {
-  new = rw c.in-Filter.is (rw c.in_ok-test-in-Filter.ensures at c.with_stage.ensures.new);
+pub returns-in_ok-filter-in-Filter : goal.returns-in_ok-filter-in-Filter
+returns-in_ok-filter-in-Filter c = record {
+  new = rw c.in-Filter.is (rw c.in_ok-filter-in-Filter.ensures at c.with_stage.ensures.new);
   others = rw c.in-Filter.is c.with_stage.ensures.others;
   told = rw c.in-Filter.is (ok-so c.with_stage.result _ refl);
   left = rw c.in-Filter.is (spends-so c.with_stage.result _ _ _ c.with_stage.ensures.memory (omega (arith, count_through-none [])));
 }
 
-pub returns-in_ok-pick-in-Project : goal.returns-in_ok-pick-in-Project
-returns-in_ok-pick-in-Project c = record {
-  new = rw c.in-Project.is (rw c.in_ok-pick-in-Project.ensures at c.with_stage-in-Project.ensures.new);
+pub returns-in_ok-project-in-Project : goal.returns-in_ok-project-in-Project
+returns-in_ok-project-in-Project c = record {
+  new = rw c.in-Project.is (rw c.in_ok-project-in-Project.ensures at c.with_stage-in-Project.ensures.new);
   others = rw c.in-Project.is c.with_stage-in-Project.ensures.others;
   told = rw c.in-Project.is (ok-so c.with_stage-in-Project.result _ refl);
   left = rw c.in-Project.is (spends-so c.with_stage-in-Project.result _ _ _ c.with_stage-in-Project.ensures.memory (omega (arith, count_through-none [])));
@@ -103,7 +104,7 @@ returns-in_ok-built-in-Join c = record {
       let build = c.in-Join.build in
       let probe = c.in-Join.probe in
       let h = rw c.in-Join.is at c.requires in
-      let with : Waiting → Join = λ unread. record { build_keys = c.in-Join.build_keys; probe_keys = c.in-Join.probe_keys; rows = unread_rows records unread; sealed = true } in
+      let with : Waiting → OperatorState = λ unread. operator_state.Join (record { build_keys = c.in-Join.build_keys; probe_keys = c.in-Join.probe_keys; rows = unread_rows records unread; sealed = true }) in
       let probed : unread_at c.take-build.new.waiting.items probe ≡ unread_at waiting probe =
       ap (λ others. unread_at others probe) c.take-build.ensures.others ∙ taken-other waiting build probe h.1.0 h.0.0 (λ e. h.2 (sym e)) in
       let built : c.in_ok-built-in-Join.built ≡ with (unread_at waiting build) = c.in_ok-built-in-Join.ensures.built ∙ ap with c.take-build.ensures.taken in
