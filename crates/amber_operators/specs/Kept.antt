@@ -8,18 +8,18 @@ use Rattle.amber_meaning.specs.Task.{Arrival, Task, built_of, rows_in}
 use Rattle.amber_link.specs.Sides.{have_builders_ended}
 use Rattle.amber_link.specs.declared.upstreams.Upstream.{Upstream}
 use Rattle.amber_operators.specs.Keeping.{GivesGroups}
-use Rattle.amber_operators.specs.States.{groups_of, join_of, keeps_answer}
+use Rattle.amber_operators.specs.States.{groups_kept, join_kept, keeps_answer}
 use Rattle.amber_operators.specs.declared.operator_state.OperatorState.{OperatorState}
 
 -- ---- which it is
 
 -- it keeps the build side of a join
 abbrev pub keeps_build_side : OperatorState → Bool
-keeps_build_side d = is_some (join_of d)
+keeps_build_side d = is_some (join_kept d)
 
 -- what is kept are groups
 abbrev pub is_group : OperatorState → Bool
-is_group d = is_some (groups_of d)
+is_group d = is_some (groups_kept d)
 
 -- nothing is kept of the rows that were taken
 abbrev pub is_plain : OperatorState → Bool
@@ -41,16 +41,16 @@ IsSealedFor None builds = Unit {0}
 IsSealedFor (Some state) builds = state.sealed ≡ not builds
 
 abbrev pub IsSealedSo : OperatorState → Bool → Type 0
-IsSealedSo d builds = IsSealedFor (join_of d) builds
+IsSealedSo d builds = IsSealedFor (join_kept d) builds
 
 -- a row of this side may be taken: a build row before what is kept is sealed, a probe row after
-abbrev pub MayTake : Option Join → Option Group → Bool → Type 0
-MayTake (Some state) groups builds = state.sealed ≡ not builds
-MayTake None (Some state) builds = state.fed < 2 ^ 40
-MayTake None None builds = Unit {0}
+abbrev pub MayTakeOf : Option Join → Option Group → Bool → Type 0
+MayTakeOf (Some state) groups builds = state.sealed ≡ not builds
+MayTakeOf None (Some state) builds = state.fed < 2 ^ 40
+MayTakeOf None None builds = Unit {0}
 
 abbrev pub MayTakeRow : OperatorState → Bool → Type 0
-MayTakeRow d builds = MayTake (join_of d) (groups_of d) builds
+MayTakeRow d builds = MayTakeOf (join_kept d) (groups_kept d) builds
 
 -- ---- the rows that it took
 
@@ -61,7 +61,7 @@ KeepsOf None (Some state) task arrivals = IsFedWith state (rows_in task arrivals
 KeepsOf None None task arrivals = Unit {0}
 
 abbrev pub KeepsRows : OperatorState → Task → List Arrival → Type 0
-KeepsRows d task arrivals = KeepsOf (join_of d) (groups_of d) task arrivals
+KeepsRows d task arrivals = KeepsOf (join_kept d) (groups_kept d) task arrivals
 
 -- what is kept of a join is sealed once the batches at hand are of the probe side, and then the build side has ended
 abbrev pub IsJoinInOrder : Join → Bool → List Upstream → Type 0
@@ -74,7 +74,7 @@ InOrder None (Some state) hand ins = state.fed ≤ hand.1
 InOrder None None hand ins = Unit {0}
 
 abbrev pub IsInOrder : OperatorState → Bool → ℕ → List Upstream → Type 0
-IsInOrder d building taken ins = InOrder (join_of d) (groups_of d) (building, taken) ins
+IsInOrder d building taken ins = InOrder (join_kept d) (groups_kept d) (building, taken) ins
 
 -- ---- the end
 
@@ -84,7 +84,7 @@ ClosesGroups None over rows = rows ≡ []
 ClosesGroups (Some state) over rows = GivesGroups state over rows
 
 abbrev pub Closes : OperatorState → Bool → List (List Value) → Type 0
-Closes d over rows = ClosesGroups (groups_of d) over rows
+Closes d over rows = ClosesGroups (groups_kept d) over rows
 
 -- the keys that groups refuse; without groups there are none
 abbrev pub RefusesKeys : Option Group → List (List Value) → Type 0
@@ -92,4 +92,4 @@ RefusesKeys None keys = keys ≡ []
 RefusesKeys (Some state) keys = (rows : List (List Value)) → IsFedWith state rows → keys ≡ refused_keys state.keys state.aggs rows
 
 abbrev pub IsRefused : OperatorState → List (List Value) → Type 0
-IsRefused d keys = RefusesKeys (groups_of d) keys
+IsRefused d keys = RefusesKeys (groups_kept d) keys

@@ -48,22 +48,22 @@ DoesKind _ _ constants role = ⊥
 -- ---- what it keeps of its rows
 
 -- the build side that is kept, of a join
-abbrev pub join_of : OperatorState → Option Join
-join_of operator_state.Scan = None
-join_of (operator_state.Filter cond) = None
-join_of (operator_state.Project from) = None
-join_of (operator_state.Join state) = Some state
-join_of (operator_state.Group state) = None
-join_of operator_state.Sink = None
+abbrev pub join_kept : OperatorState → Option Join
+join_kept operator_state.Scan = None
+join_kept (operator_state.Filter cond) = None
+join_kept (operator_state.Project from) = None
+join_kept (operator_state.Join state) = Some state
+join_kept (operator_state.Group state) = None
+join_kept operator_state.Sink = None
 
 -- the groups that are kept, of a group
-abbrev pub groups_of : OperatorState → Option Group
-groups_of operator_state.Scan = None
-groups_of (operator_state.Filter cond) = None
-groups_of (operator_state.Project from) = None
-groups_of (operator_state.Join state) = None
-groups_of (operator_state.Group state) = Some state
-groups_of operator_state.Sink = None
+abbrev pub groups_kept : OperatorState → Option Group
+groups_kept operator_state.Scan = None
+groups_kept (operator_state.Filter cond) = None
+groups_kept (operator_state.Project from) = None
+groups_kept (operator_state.Join state) = None
+groups_kept (operator_state.Group state) = Some state
+groups_kept operator_state.Sink = None
 
 -- rows are kept for the answer, of a sink
 abbrev pub keeps_answer : OperatorState → Bool

@@ -3,7 +3,7 @@
 //! An `OperatorState` is of one of the kinds of operators, and has what this kind keeps: the condition of a filter, the build
 //! side of a join, the groups of a group. The functions take the next row or record of what was handed (`Rest`), or many,
 //! and put what comes of it where it goes (`Gains`): rows that go on are pending, records with a fault are refused, and a
-//! sink keeps its rows for the answer. All that tells a kind from the others stands here, its definitions in
+//! sink keeps its rows for the answer. All that tells a kind from the others stands here, in `src/kinds.rt` and
 //! `specs/States.antt`; who drives an operator does not ask which kind it is.
 //!
 //! Rows are taken in one of three ways. `take_next` takes the next one at once. `ready_next` does all of the taking that may
@@ -29,9 +29,9 @@
 
 mod grouping;
 mod joining;
+pub mod kinds;
 pub mod leaving;
 pub mod letting_by;
-pub mod making;
 pub mod operator_state;
 pub mod pending;
 pub mod readied;
@@ -40,16 +40,17 @@ pub mod redone_groups;
 pub mod redone_joins;
 mod redone_records;
 pub mod redone_rows;
-pub mod setting;
-pub mod showing;
 pub mod taking_ready;
 pub mod taking_rows;
 pub mod used_rows;
 pub mod yielding;
 
+pub use kinds::{
+    closing_of, extra_of, is_last, keys_into, operator_state_of, refused_keys, set_value, turn_to,
+    yield_of,
+};
 pub use leaving::{leave_readied, take_readied};
 pub use letting_by::{Gate, lets_pending_by, lets_rows_by};
-pub use making::{keys_into, operator_state_of};
 pub use operator_state::OperatorState;
 pub use pending::Pending;
 pub use readied::{Readied, ready_next};
@@ -57,15 +58,11 @@ pub use readied_rows::{ReadiedRows, lets_ready_by, ready_rows};
 pub use redone_groups::{Fed, feed_groups, unfeed_groups};
 pub use redone_joins::MadeRows;
 pub use redone_rows::{Fates, drop_all, join_rows, move_all};
-pub use setting::set_value;
-pub use showing::{extra_of, refused_keys};
 pub use std::alloc::AllocError as NoMemory;
 pub use taking_ready::{feed_rows, most_made, reserve_kept, take_rows};
-pub use taking_rows::{
-    Fate, Gains, Rest, close, closes_at, closing_of, is_last, side_columns, take_next, turn_to,
-};
+pub use taking_rows::{Fate, Gains, Rest, close, closes_at, side_columns, take_next};
 pub use used_rows::UsedRows;
-pub use yielding::{Yielded, yield_of};
+pub use yielding::Yielded;
 
 #[cfg(test)]
 mod tests;

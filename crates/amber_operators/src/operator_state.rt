@@ -1,8 +1,5 @@
 //! What a worker keeps for its operator. Rests on the states of `amber_ops`, `amber_join` and `amber_group`.
 
-ghost use Rattle.std.specs.Prelude.{◌≡◌};
-ghost use Rattle.amber_operators.specs.Kept.{is_group};
-
 use amber_group::GroupState;
 use amber_join::JoinState;
 use amber_ops::{FilterState, ProjectState};
@@ -33,29 +30,5 @@ impl Drop for OperatorState {
             OperatorState::Group(_) => {}
             OperatorState::Sink => {}
         }
-    }
-}
-
-impl OperatorState {
-    /// Whether what is kept are groups: rows come of these only once nothing more can come.
-    pub fn is_group(&self) -> bool
-        ensures { result ≡ is_group self.now }
-    {
-        matches!(self, OperatorState::Group(_))
-    }
-
-    /// Whether the rows that it gives are not those that it was handed, so that used rows can be written over.
-    #[inline(always)]
-    pub fn makes_rows(&self) -> bool {
-        match self {
-            OperatorState::Scan | OperatorState::Project(_) | OperatorState::Join(_) => true,
-            OperatorState::Filter(_) | OperatorState::Group(_) | OperatorState::Sink => false,
-        }
-    }
-
-    /// Whether the rows that it gives are those that senders handed to it, who can have them back.
-    #[inline(always)]
-    pub fn passes_rows(&self) -> bool {
-        matches!(self, OperatorState::Filter(_))
     }
 }

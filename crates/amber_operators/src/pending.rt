@@ -54,6 +54,7 @@ impl Pending {
     }
 
     /// Whether no row is pending.
+    #[inline(always)]
     pub fn is_empty(&self) -> bool
         ensures { has_some self.now ≡ not result }
     {
@@ -61,6 +62,7 @@ impl Pending {
     }
 
     /// How many rows are pending.
+    #[inline(always)]
     pub fn len(&self) -> u64
         ensures { result ≡ length self.now }
     {
@@ -68,6 +70,7 @@ impl Pending {
     }
 
     /// The row that is emitted next, if there is one.
+    #[inline(always)]
     pub fn front(&self) -> Option<&Row>
         ensures none { IfNone result (has_some self.now ≡ false) }
         ensures some { IfSome result (λ row. first_of self.now ≡ Some row.now) }
@@ -90,6 +93,7 @@ impl Pending {
     }
 
     /// Takes the row that is emitted next, if there is one.
+    #[inline(always)]
     pub fn pop_front(&mut self) -> Option<Row>
         ensures { MatchOption result ((self.old ≡ []) × (self.new ≡ []))
             (λ row. self.old ≡ row ∷ self.new) }
@@ -113,6 +117,7 @@ impl Pending {
     }
 
     /// These rows are pending, where none was.
+    #[inline(always)]
     pub fn fill(&mut self, rows: VecDeque<Row>)
         requires { self.old ≡ [] }
         ensures { self.new ≡ rows.items }

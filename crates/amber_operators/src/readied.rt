@@ -13,6 +13,7 @@ ghost use Rattle.amber_operators.specs.Kept.{is_plain};
 ghost use Rattle.amber_operators.specs.Kept.{MayTakeRow};
 
 use crate::grouping::rows_of_groups;
+use crate::kinds::ready_row;
 use crate::operator_state::OperatorState;
 use crate::taking_rows::{Fate, Gains, Rest, fate_of};
 use amber_group::{GroupState, Taken};
@@ -54,7 +55,7 @@ fn ready_record(share: &mut Share, gains: &mut Gains) -> Result<(), AllocError>
 }
 
 // Says what becomes of the row at the front, of which a worker keeps nothing.
-fn ready_plain(
+pub(crate) fn ready_plain(
     rest: &Rest,
     columns: &Schema,
     operator_state: &OperatorState,
@@ -77,7 +78,11 @@ fn ready_plain(
 }
 
 // Makes room for the row at the front, which is kept for the answer where it suits the columns.
-fn ready_kept(rest: &Rest, columns: &Schema, gains: &mut Gains) -> Result<Readied, AllocError>
+pub(crate) fn ready_kept(
+    rest: &Rest,
+    columns: &Schema,
+    gains: &mut Gains,
+) -> Result<Readied, AllocError>
     requires some { has_some rest.now.rows.items ≡ true }
     requires batch { rest.now.share ≡ None }
     ensures ok { IfOk result (λ readied. (builds over : Bool) → StandsReady
@@ -134,7 +139,7 @@ fn ready_built(
 }
 
 // Finds the rows that a join gives for the row at the front, or moves that into it.
-fn ready_joined(
+pub(crate) fn ready_joined(
     rest: &mut Rest,
     columns: &Schema,
     builds: bool,
@@ -187,7 +192,7 @@ pub(crate) fn rows_once_over(
 }
 
 // Feeds the row at the front to the groups, where it suits, and makes the rows that come then.
-fn ready_grouped(
+pub(crate) fn ready_grouped(
     rest: &Rest,
     columns: &Schema,
     over: bool,
@@ -222,37 +227,6 @@ fn ready_grouped(
         Err(error) => {
             state.undo(taken);
             Err(error)
-        }
-    }
-}
-
-// Makes the next row of a batch ready.
-fn ready_row(
-    rest: &mut Rest,
-    columns: &Schema,
-    builds: bool,
-    over: bool,
-    operator_state: &mut OperatorState,
-    gains: &mut Gains,
-) -> Result<Readied, AllocError>
-    requires some { has_some rest.old.rows.items ≡ true }
-    requires batch { rest.old.share ≡ None }
-    requires may { MayTakeRow operator_state.old builds }
-    ensures ok { IfOk result (λ readied. StandsReady
-        (record { columns = columns.now; builds = builds; over = over })
-        (record { left = arrivals_in rest.old; state = operator_state.old; gains = gains.old })
-        (record { rest = rest.new; state = operator_state.new; gains = gains.new }) readied) }
-    ensures share { rest.new.share ≡ rest.old.share }
-    ensures rest_on_err { OnErr result (arrivals_in rest.new ≡ arrivals_in rest.old) }
-    ensures operator_state_on_err { OnErr result (operator_state.new ≡ operator_state.old) }
-    ensures same { AreSame gains.old gains.new }
-{
-    match operator_state {
-        OperatorState::Join(state) => ready_joined(rest, columns, builds, state, gains),
-        OperatorState::Group(state) => ready_grouped(rest, columns, over, state, gains),
-        OperatorState::Sink => ready_kept(rest, columns, gains),
-        OperatorState::Scan | OperatorState::Filter(_) | OperatorState::Project(_) => {
-            ready_plain(rest, columns, operator_state, gains)
         }
     }
 }

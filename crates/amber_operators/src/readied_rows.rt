@@ -1,7 +1,7 @@
 //! How several rows or records are made ready to be taken, and judged. Rests on `redone_rows`, `redone_joins`,
 //! `redone_records` and `letting_by`.
 
-ghost use Rattle.std.specs.Prelude.{◌≡◌, ◌-◌, ◌≤◌, ◌++◌, ◌&&◌, Bool, List, None, length, take, false, true, is_some, IfOk, IfSome};
+ghost use Rattle.std.specs.Prelude.{◌≡◌, ◌-◌, ◌≤◌, ◌++◌, ◌&&◌, Bool, List, length, take, false, true, is_some, IfOk, IfSome};
 ghost use Rattle.amber_rows.specs.declared.value.Value.{Value as Cell};
 ghost use Rattle.amber_operators.specs.Handed.{arrivals_in};
 ghost use Rattle.amber_operators.specs.ReadiedRows.{AreReadied, Reading, reading_with, yielded_to};
@@ -9,11 +9,12 @@ ghost use Rattle.amber_operators.specs.Kept.{IsSealedSo, is_group};
 ghost use Rattle.amber_operators.specs.ManyRows.{lets_by, yielded_by};
 ghost use Rattle.amber_operators.specs.declared.taking_rows.Rest.{Rest as OneRest};
 
+use crate::kinds::ready_batch;
 use crate::letting_by::{Gate, lets_fates_by, lets_rows_by};
 use crate::operator_state::OperatorState;
-use crate::redone_joins::{MadeRows, probe_rows};
+use crate::redone_joins::MadeRows;
 use crate::redone_records::{Counted, count_rows, lets_records_by};
-use crate::redone_rows::{Fates, fates_of};
+use crate::redone_rows::Fates;
 use crate::taking_rows::Rest;
 use crate::used_rows::UsedRows;
 use amber_rows::{Cond, Schema};
@@ -82,40 +83,6 @@ fn ready_records(rest: &mut Rest, columns: &Schema, count: usize) -> Result<Read
     share.read_ahead(count)?;
     let Counted { before, made } = count_rows(share, columns, count);
     Ok(ReadiedRows::Records { before, made })
-}
-
-// Says what becomes of so many rows of the batch, or what comes of them.
-fn ready_batch(
-    alloc: Global,
-    rest: &Rest,
-    columns: &Schema,
-    builds: bool,
-    operator_state: &OperatorState,
-    count: usize,
-    free: &mut UsedRows,
-) -> Result<ReadiedRows, AllocError>
-    requires batch { rest.now.share ≡ None }
-    requires there { count ≤ length rest.now.rows.items }
-    requires apart { is_group operator_state.now ≡ false }
-    requires sealed { IsSealedSo operator_state.now builds }
-    ensures { IfOk result (λ readied. AreReadied
-        (reading_with count columns.now builds operator_state.now) rest.now readied) }
-{
-    match operator_state {
-        OperatorState::Sink => Ok(ReadiedRows::Kept),
-        OperatorState::Scan | OperatorState::Filter(_) | OperatorState::Project(_) => {
-            let fates = fates_of(alloc, operator_state, columns, &rest.rows, count, free)?;
-            Ok(ReadiedRows::Rows(fates))
-        }
-        OperatorState::Join(state) => {
-            if builds {
-                return Ok(ReadiedRows::Built);
-            }
-            let made = probe_rows(alloc, state, columns, &rest.rows, count, free)?;
-            Ok(ReadiedRows::Made(made))
-        }
-        OperatorState::Group(_) => unreachable!(),
-    }
 }
 
 /// Makes so many rows or records ready.

@@ -1,6 +1,6 @@
-//! How a worker takes rows and batches. Rests on `joining`, `grouping` and `Pending`, and on `Share` of `amber_scan`.
+//! How a worker takes rows and batches. Rests on `kinds` and `Pending`, and on `Share` of `amber_scan`.
 
-ghost use Rattle.std.specs.Prelude.{◌≡◌, ◌==◌, ◌&&◌, [], if◌then◌else◌, List, ◌+◌, ◌++◌, ◌<◌, Ok, Some, is_some, true, false, not, drop, length, slice_index_or, take, vec_capacity, vec_len, IfOk, IfSome, OnErr, OnOk};
+ghost use Rattle.std.specs.Prelude.{◌≡◌, ◌&&◌, [], if◌then◌else◌, List, ◌+◌, ◌++◌, ◌<◌, Ok, Some, is_some, true, false, not, drop, length, slice_index_or, take, vec_capacity, vec_len, IfOk, IfSome, OnErr, OnOk};
 ghost use Rattle.amber_rows.specs.declared.column.Column.{Column};
 ghost use Rattle.amber_meaning.specs.Task.{row_in};
 ghost use Rattle.amber_meaning.specs.Refused.{refusal_in};
@@ -9,13 +9,10 @@ ghost use Rattle.amber_link.specs.Links.{has_some, starts_empty, waiting};
 ghost use Rattle.amber_link.specs.declared.upstreams.Upstream.{Upstream as OneUpstream};
 ghost use Rattle.amber_link.specs.Sides.{have_all_ended};
 ghost use Rattle.amber_operators.specs.Handed.{arrivals_in};
-ghost use Rattle.amber_operators.specs.RowsTaken.{AreSame, GainsAny, GainsNext, GainsRecord, GainsRow, gives_if, passed_of};
-ghost use Rattle.amber_operators.specs.Kept.{Closes, is_group, is_plain};
-ghost use Rattle.amber_operators.specs.Kept.{MayTakeRow};
-ghost use Rattle.amber_operators.specs.States.{turned_to};
+ghost use Rattle.amber_operators.specs.RowsTaken.{AreSame, GainsNext, GainsRecord, GainsRow, gives_if, passed_of};
+ghost use Rattle.amber_operators.specs.Kept.{MayTakeRow, is_plain};
 
-use crate::grouping::{rows_of_groups, take_grouped};
-use crate::joining::take_joined;
+use crate::kinds::{suited_fate, take_any};
 use crate::operator_state::OperatorState;
 use crate::pending::Pending;
 use crate::used_rows::UsedRows;
@@ -23,7 +20,7 @@ use amber_link::{Upstream, have_ended, is_empty_at};
 use amber_meaning::Refusal;
 use amber_rows::{Row, Schema, suits};
 use amber_scan::{Scanned, Share};
-use std::alloc::{AllocError, Global};
+use std::alloc::AllocError;
 use std::collections::VecDeque;
 
 /// What a worker has not taken yet: of a scan's share, or of the batch at hand.
@@ -74,30 +71,6 @@ pub enum Fate {
     Dropped,
     Passed,
     Made(Row),
-}
-
-// What becomes of a row that suits.
-fn suited_fate(
-    operator_state: &OperatorState,
-    row: &Row,
-    free: &mut UsedRows,
-) -> Result<Fate, AllocError>
-    requires plain { is_plain operator_state.now ≡ true }
-    ensures { IfOk result (λ fate. passed_of fate row.now
-        ≡ gives_if operator_state.now false (Some row.now)) }
-{
-    match operator_state {
-        OperatorState::Scan => Ok(Fate::Passed),
-        OperatorState::Filter(state) => {
-            if state.passes(row) {
-                Ok(Fate::Passed)
-            } else {
-                Ok(Fate::Dropped)
-            }
-        }
-        OperatorState::Project(state) => Ok(Fate::Made(state.pick_over(free.take(), row)?)),
-        OperatorState::Join(_) | OperatorState::Group(_) | OperatorState::Sink => unreachable!(),
-    }
 }
 
 // What becomes of a row; one that does not suit the columns is dropped.
@@ -177,7 +150,7 @@ fn take_record(share: &mut Share, op: u32, gains: &mut Gains) -> Result<(), Allo
 }
 
 // Takes the next row of a batch, of which a worker keeps nothing.
-fn take_arrival(
+pub(crate) fn take_arrival(
     rows: &mut VecDeque<Row>,
     operator_state: &OperatorState,
     columns: &Schema,
@@ -204,7 +177,7 @@ fn take_arrival(
 }
 
 // Takes the next row of a batch, which is kept for the answer where it suits the columns.
-fn take_kept(
+pub(crate) fn take_kept(
     rows: &mut VecDeque<Row>,
     columns: &Schema,
     gains: &mut Gains,
@@ -224,52 +197,6 @@ fn take_kept(
         gains.kept.push_reserved(row);
     }
     Ok(())
-}
-
-// Takes the next row of a batch, of the build side or not, the last one where nothing more can
-// come.
-fn take_any(
-    rows: &mut VecDeque<Row>,
-    columns: &Schema,
-    builds: bool,
-    over: bool,
-    operator_state: &mut OperatorState,
-    gains: &mut Gains,
-) -> Result<(), AllocError>
-    requires some { has_some rows.old.items ≡ true }
-    requires may { MayTakeRow operator_state.old builds }
-    requires none { gains.old.pending ≡ [] }
-    ensures ok { OnOk result
-        (GainsAny (record { columns = columns.now; builds = builds; over = over })
-        (record { left = rows.old.items; state = operator_state.old; gains = gains.old })
-        (record { left = rows.new.items; state = operator_state.new; gains = gains.new })) }
-    ensures rows_on_err { OnErr result (rows.new.items ≡ rows.old.items) }
-    ensures operator_state_on_err { OnErr result (operator_state.new ≡ operator_state.old) }
-    ensures gains_on_err { OnErr result (AreSame gains.old gains.new) }
-{
-    match operator_state {
-        OperatorState::Join(state) => take_joined(
-            rows,
-            columns,
-            builds,
-            state,
-            &mut gains.pending.later,
-            &mut gains.done,
-            &mut gains.free,
-        ),
-        OperatorState::Group(state) => take_grouped(
-            rows,
-            columns,
-            over,
-            state,
-            &mut gains.pending.later,
-            &mut gains.done,
-        ),
-        OperatorState::Sink => take_kept(rows, columns, gains),
-        OperatorState::Scan | OperatorState::Filter(_) | OperatorState::Project(_) => {
-            take_arrival(rows, operator_state, columns, gains)
-        }
-    }
 }
 
 /// Takes the next row or record.
@@ -311,22 +238,6 @@ pub fn side_columns<'a>(builds: bool, build_columns: &'a Schema, columns: &'a Sc
     if builds { build_columns } else { columns }
 }
 
-/// Whether what is kept are groups, and the next row is the last one that can come.
-pub fn is_last(operator_state: &OperatorState, rest: &Rest, ins: &[Upstream]) -> bool
-    requires { IfSome rest.now.share (λ _. operator_state.now ≡ OperatorState.Scan) }
-    ensures { result ≡ (is_group operator_state.now
-        && ((length (arrivals_in rest.now) == 1) && have_all_ended ins.now)) }
-{
-    match operator_state {
-        OperatorState::Group(_) => rest.rows.len() == 1 && have_ended(ins),
-        OperatorState::Scan
-        | OperatorState::Filter(_)
-        | OperatorState::Project(_)
-        | OperatorState::Join(_)
-        | OperatorState::Sink => false,
-    }
-}
-
 /// Whether the first batch of the sender at this place is empty, and those of all other senders have ended.
 pub fn closes_at(ins: &[Upstream], place: usize) -> bool
     requires there { place < length ins.now }
@@ -339,27 +250,6 @@ pub fn closes_at(ins: &[Upstream], place: usize) -> bool
     is_empty_at(ins, place) && have_ended(&ins[..place]) && have_ended(&ins[place + 1..])
 }
 
-/// The rows that are given at the end, where they are asked for; else none.
-pub fn closing_of(
-    alloc: Global,
-    operator_state: &OperatorState,
-    asked: bool,
-) -> Result<VecDeque<Row>, AllocError>
-    ensures { IfOk result (λ last. Closes operator_state.now asked last.items) }
-{
-    if !asked {
-        return Ok(VecDeque::new(alloc));
-    }
-    match operator_state {
-        OperatorState::Group(state) => rows_of_groups(alloc, state),
-        OperatorState::Scan
-        | OperatorState::Filter(_)
-        | OperatorState::Project(_)
-        | OperatorState::Join(_)
-        | OperatorState::Sink => { Ok(VecDeque::new(alloc)) }
-    }
-}
-
 // Where nothing more can come, these rows are pending.
 pub fn close(pending: &mut Pending, last: VecDeque<Row>, ins: &[Upstream])
     requires none { pending.old ≡ [] }
@@ -367,23 +257,5 @@ pub fn close(pending: &mut Pending, last: VecDeque<Row>, ins: &[Upstream])
 {
     if !last.is_empty() && have_ended(ins) {
         pending.fill(last);
-    }
-}
-
-/// The batches at hand are of the build side, or of the other: then what a join keeps is sealed.
-pub fn turn_to(operator_state: &mut OperatorState, builds: bool)
-    ensures { operator_state.new ≡ turned_to builds operator_state.old }
-{
-    match operator_state {
-        OperatorState::Join(state) => {
-            if !builds {
-                state.seal();
-            }
-        }
-        OperatorState::Scan
-        | OperatorState::Filter(_)
-        | OperatorState::Project(_)
-        | OperatorState::Group(_)
-        | OperatorState::Sink => {}
     }
 }

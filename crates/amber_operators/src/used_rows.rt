@@ -72,6 +72,7 @@ impl UsedRows {
     }
 
     /// The row that was kept last, if there is one.
+    #[inline(always)]
     pub fn take(&mut self) -> Option<Row> {
         self.rows.pop()
     }
